@@ -1,0 +1,11 @@
+pub mod State
+pub mod Bytes
+pub mod Memory
+pub mod Boot
+pub mod Registers
+pub mod Instructions
+pub mod Step
+pub mod Run
+pub mod RunLaws
+pub mod Report
+pub mod Codes
