@@ -1,0 +1,5 @@
+pub mod Trees
+pub mod Grammar
+pub mod PrefixEnds
+pub mod Tables
+mod Listings

@@ -1,0 +1,12 @@
+pub mod Entries
+pub mod Rows
+pub mod Prefixes
+pub mod Addresses
+pub mod Operands
+pub mod Spelling
+pub mod Fits
+pub mod Tree
+pub mod RowTree
+pub mod Names
+pub mod Text
+pub mod Listing
