@@ -1,0 +1,9 @@
+pub mod Running
+pub mod Trims
+pub mod PrefixSteps
+pub mod Ending
+pub mod Fronts
+pub mod RowKinds
+pub mod Placing
+pub mod Picking
+pub mod Only

@@ -1,0 +1,4 @@
+pub mod Decoded
+pub mod Slices
+pub mod Reading
+pub mod Selection

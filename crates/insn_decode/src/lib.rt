@@ -1,0 +1,25 @@
+//! The decoder: from bytes to the instruction that they spell.
+//!
+//! `decode_into` writes the instruction in place, `decode` and `decode_slice` hand it back. Each says
+//! in its own clauses when it answers what, by `Spelt` and `Begun` of `mdl_insn`.
+//! Read `specs/Decoded.antt` first.
+#![tactic(auto)]
+
+pub mod addresses;
+pub mod bytes;
+pub mod decoding;
+pub mod legality;
+pub mod operands;
+pub mod prefixes;
+pub mod refusals;
+pub mod rows;
+pub mod slice;
+
+pub use decoding::{blank, decode, decode_into};
+pub use refusals::{SliceError, Undecoded};
+pub use slice::decode_slice;
+
+#[cfg(test)]
+mod faults;
+#[cfg(test)]
+mod vectors;
