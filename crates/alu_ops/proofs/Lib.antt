@@ -1,0 +1,3 @@
+pub mod LogicBounds
+pub mod SignedWords
+pub mod Divisions
