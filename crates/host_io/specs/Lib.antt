@@ -1,0 +1,7 @@
+pub mod Slots
+pub mod Causes
+pub mod Transfers
+pub mod Prefixes
+pub mod History
+pub mod Inputs
+pub mod MemHost
