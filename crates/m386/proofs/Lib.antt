@@ -1,0 +1,4 @@
+pub mod Lengths
+pub mod Matching
+pub mod Outcomes
+pub mod Screen

@@ -1,0 +1,11 @@
+use Rattle.std.proofs.Common.{◌≡◌, ◌+◌, ◌*◌, ◌++◌, ℕ, map, length}
+use Rattle.std.specs.List.{range_with_len}
+use Rattle.mdl_state.specs.Memory.{byte_at}
+use Rattle.mdl_state.specs.Report.{printed, cell_address}
+use Rattle.m386.proofs.report.push_row.Given as goal
+
+abbrev pub invariant-loop-column : goal.invariant-loop-column
+invariant-loop-column l = record {
+  text : l.text.items ≡ l.fn.text.items ++ map (λ (column : ℕ). printed (byte_at l.first.mem.physical (cell_address l.start (80 * l.row + column)))) (range_with_len 0 l.column);
+  length : length l.text.items ≡ length l.fn.text.items + l.column;
+}

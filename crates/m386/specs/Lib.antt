@@ -1,0 +1,4 @@
+pub mod Words
+pub mod Headline
+pub mod Answers
+pub mod FileHost

@@ -1,0 +1,54 @@
+//! The machine of a run: built, and run for so many steps.
+
+ghost use Rattle.std.specs.Prelude.{◌≡◌, ◌≤◌, ◌<◌, ◌^◌, ◌*◌, [], length, IfOk};
+ghost use Rattle.std.specs.Bool.{OnTrue, OnFalse};
+ghost use Rattle.mdl_state.specs.Boot.{boot, empty_ram};
+ghost use Rattle.mdl_state.specs.Memory.{IsRomLength};
+ghost use Rattle.mdl_state.specs.Run.{ReachesUnbuilt};
+ghost use Rattle.mdl_state.specs.RunLaws.{StepsFor};
+
+use cpu_core::First;
+use guest_ram::Ram;
+use std::alloc::{AllocError, Global};
+
+/// The bytes of a mebibyte.
+const MEBIBYTE: u32 = 0x100000;
+
+/// How many mebibytes of RAM the machine has.
+const RAM_MEBIBYTES: u32 = 4;
+
+/// RAM of so many mebibytes, all zero.
+#[tactic(auto, unfolding(mdl_state::specs::Boot::empty_ram))]
+fn empty_ram(alloc: Global, mebibytes: u32) -> Result<Ram, AllocError>
+    requires { mebibytes ≤ 64 }
+    ensures zero { IfOk result (λ ram. ram ≡ empty_ram mebibytes) }
+    ensures length { IfOk result (λ ram. length ram ≡ mebibytes * 0x100000) }
+{
+    let ram = Ram::new(alloc, mebibytes * MEBIBYTE)?;
+    Ok(ram)
+}
+
+/// The machine at boot with this ROM.
+pub(crate) fn boot(alloc: Global, rom: Vec<u8>) -> Result<First, AllocError>
+    requires { IsRomLength (length rom.items) }
+    ensures { IfOk result (λ first. first ≡ boot 4 rom.items) }
+{
+    let ram = empty_ram(alloc, RAM_MEBIBYTES)?;
+    Ok(First::new(ram, rom))
+}
+
+/// Makes so many steps, or answers false at the first that is not built.
+pub(crate) fn run(first: &mut First, steps: u64) -> bool
+    requires some { steps < 2 ^ 63 }
+    requires boot { first.old.core.steps ≡ 0 }
+    ensures made { OnTrue result (StepsFor steps [] first.old first.new) }
+    ensures count { OnTrue result (first.new.core.steps ≡ steps) }
+    ensures unbuilt { OnFalse result (ReachesUnbuilt first.old [] steps) }
+{
+    for _step in 0..steps {
+        if !first.step() {
+            return false;
+        }
+    }
+    true
+}

@@ -1,0 +1,55 @@
+//! Text in fixed room: names, numbers, and the lines of the report.
+
+ghost use Rattle.std.specs.Prelude.{◌≡◌, ◌++◌, ◌+◌, ◌≤◌, length};
+ghost use Rattle.std.specs.Fmt.{decimal};
+ghost use Rattle.arrayvec.specs.ArrayVec.{array_vec_len};
+ghost use Rattle.mdl_state.specs.Report.{named4, named8};
+
+use arrayvec::ArrayVec;
+use itoa::Buffer;
+
+/// Room for the lines of the registers.
+pub(crate) const ROOM: usize = 1024;
+
+/// A text.
+pub(crate) fn push_text(text: &mut ArrayVec<u8, ROOM>, more: &[u8])
+    requires { array_vec_len text.old + length more.now ≤ ROOM }
+    ensures text { text.new.items ≡ text.old.items ++ more.now }
+    ensures length { array_vec_len text.new ≡ array_vec_len text.old + length more.now }
+{
+    let _ = text.try_extend_from_slice(more);
+}
+
+/// A name and a number in four digits.
+pub(crate) fn push_named4(text: &mut ArrayVec<u8, ROOM>, name: &[u8], number: u16)
+    requires { array_vec_len text.old + length name.now + 4 ≤ ROOM }
+    ensures text { text.new.items ≡ text.old.items ++ named4 name.now number }
+    ensures length { array_vec_len text.new ≡ array_vec_len text.old + length name.now + 4 }
+{
+    let mut digits = [0u8; 4];
+    let _ = hex::encode_to_slice(&number.to_be_bytes(), &mut digits);
+    push_text(text, name);
+    push_text(text, &digits);
+}
+
+/// A name and a number in eight digits.
+pub(crate) fn push_named8(text: &mut ArrayVec<u8, ROOM>, name: &[u8], number: u32)
+    requires { array_vec_len text.old + length name.now + 8 ≤ ROOM }
+    ensures text { text.new.items ≡ text.old.items ++ named8 name.now number }
+    ensures length { array_vec_len text.new ≡ array_vec_len text.old + length name.now + 8 }
+{
+    let mut digits = [0u8; 8];
+    let _ = hex::encode_to_slice(&number.to_be_bytes(), &mut digits);
+    push_text(text, name);
+    push_text(text, &digits);
+}
+
+/// A number in decimal digits.
+pub(crate) fn push_decimal(text: &mut ArrayVec<u8, ROOM>, number: u64)
+    requires { array_vec_len text.old + 20 ≤ ROOM }
+    ensures text { text.new.items ≡ text.old.items ++ decimal number }
+    ensures length { array_vec_len text.new ≤ array_vec_len text.old + 20 }
+{
+    let mut buffer = Buffer::new();
+    push_text(text, buffer.format(number).as_bytes());
+}
