@@ -3,6 +3,7 @@
 ghost use Rattle.std.specs.Prelude.{◌≡◌, ◌≢◌, ◌↔◌, ◌⊎◌, ℕ, List, [], map, length, Some};
 ghost use Rattle.host_io.specs.declared.host.InSlot.TheVariants.{Rom};
 ghost use Rattle.host_io.specs.declared.host.OutSlot.TheVariants.{Report};
+ghost use Rattle.host_io.specs.declared.host.Slot.{Slot};
 ghost use Rattle.host_io.specs.declared.host.Slot.TheVariants.{In, Out};
 ghost use Rattle.host_io.specs.Slots.{Same, SameBut};
 ghost use Rattle.mdl_state.specs.Boot.{boot};
@@ -72,6 +73,7 @@ pub fn m386<H: Host>(alloc: Global, words: &[&str], host: &mut H) -> Status
         (H.left host.old Rom) (H.took host.old Report) (H.took host.new Report)
         ⊎ (H.took host.new Report ≡ H.took host.old Report) }
     ensures outputs { SameBut Report (H.took host.old) (H.took host.new) }
+    ensures unopened { (slot : Slot) → slot ≢ In Rom → slot ≢ Out Report → H.path host.new slot ≡ H.path host.old slot }
 
     // A run that is asked for and comes to no unbuilt step is done, unless memory wants.
     ensures complete { (job : Job) → (rom : List ℕ) → Matched (map (λ w. w.now) words.now) job
