@@ -1,60 +1,49 @@
 -- One step of the machine, as far as it is built. Manual, chapters 9 and 10.
-use Rattle.std.specs.Prelude.{◌≡◌, ℕ, ◌+◌, ◌%◌, ◌^◌, ◌==◌, ◌&&◌, not, nat_le, Bool, if◌then◌else◌, [], Option, Some, None}
-use Rattle.std.specs.Option.{option_and_then, option_map}
+use Rattle.std.specs.Prelude.{◌≡◌, ◌≤◌, ℕ, zero, suc, ◌+◌, ◌%◌, ◌^◌, ◌==◌, ◌&&◌, not, Bool, false, List, [], ◌∷◌, IsTrue}
 use Rattle.mdl_state.specs.declared.Regs.{Regs}
 use Rattle.mdl_state.specs.declared.Seg.TheVariants.{Cs}
-use Rattle.mdl_state.specs.declared.Latches.{Latches}
 use Rattle.mdl_state.specs.declared.Activity.{Activity}
-use Rattle.mdl_state.specs.declared.Activity.TheVariants.{Running, Halted, Shutdown}
+use Rattle.mdl_state.specs.declared.Activity.TheVariants.{Running, Halted}
 use Rattle.mdl_state.specs.declared.Next.{Next}
 use Rattle.mdl_state.specs.declared.Next.TheVariants as next
-use Rattle.mdl_state.specs.declared.Spelling.{Spelling}
-use Rattle.mdl_state.specs.State.{Physical, Core, State, Choice}
+use Rattle.mdl_state.specs.State.{Physical, Mem, Core, State, Choice}
+use Rattle.mdl_state.specs.Bytes.{bit}
 use Rattle.mdl_state.specs.Memory.{byte_at}
-use Rattle.mdl_state.specs.Registers.{bit, seg_of}
-use Rattle.mdl_state.specs.Instructions.{After, spelt, effect}
+use Rattle.mdl_state.specs.Registers.{seg_of}
+use Rattle.mdl_state.specs.Serving.{Policy, Passed, by_list, with_items}
+use Rattle.mdl_state.specs.Attempt.{attempt}
+use Rattle.mdl_insn.specs.declared.instruction.Insn.{Insn}
+use Rattle.mdl_insn.specs.Spelling.{Spelt}
+use Rattle.mdl_step.specs.Operands.{After}
+use Rattle.mdl_step.specs.Effects.{effect, is_built}
+use Rattle.mdl_step.specs.Boundary.{Boundary, Idle, Execute, Deliver, boundary}
 
--- what a step is: nothing happens, an instruction is executed, or an event is delivered
-pub data Boundary : Type 0 where
-  Idle : Boundary
-  Execute : Boundary
-  Deliver : Boundary
-
--- an NMI waits, is not masked, and nothing holds it back
-abbrev pub takes_nmi : Latches → Bool
-takes_nmi latches = latches.nmi && not latches.masked && not (latches.hold == 1)
-
--- a debug trap is pending, and nothing holds it back
-abbrev pub takes_trap : Latches → Bool
-takes_trap latches = not (latches.pending == 0) && not (latches.hold == 1)
-
--- The first row that holds decides. No interrupt line and no breakpoint is built, so neither has a row.
--- Own: Rows of the boundary without an event.
-abbrev pub boundary_rows : Activity → Latches → Boundary
-boundary_rows Shutdown latches = if takes_nmi latches then Deliver else Idle
-boundary_rows Halted latches = if takes_trap latches then Deliver else if takes_nmi latches then Deliver else Idle
-boundary_rows Running latches = if takes_trap latches then Deliver else if takes_nmi latches then Deliver else Execute
-
-unfoldable pub boundary : Core → Boundary
-boundary core = boundary_rows core.activity core.latches
+-- ---- the instruction
 
 -- real mode, and no debugging: PE, TF and RF are 0, and no breakpoint is enabled
-abbrev pub is_plain : Regs → Bool
-is_plain r = not (bit r.cr0 0) && not (bit r.eflags 8) && not (bit r.eflags 16) && r.dr7 % 0x100 == 0
+abbrev pub is_plain_mode : Regs → Bool
+is_plain_mode r = not (bit r.cr0 0) && not (bit r.eflags 8) && not (bit r.eflags 16) && r.dr7 % 0x100 == 0
 
 -- byte n of the code at CS:EIP, by a linear address modulo 2^32
 unfoldable pub code_byte : Physical → Regs → ℕ → ℕ
 code_byte physical r n = byte_at physical (((seg_of r Cs).base + r.eip + n) % 2 ^ 32)
 
--- the instruction at CS:EIP, if it is built and ends at offset FFFFh or before
-unfoldable pub instruction_at : Physical → Regs → Option Spelling
-instruction_at physical r =
-    if is_plain r then option_and_then (λ (s : Spelling). if nat_le (r.eip + s.length) 0x10000 then Some s else None) (spelt (code_byte physical r))
-    else None
+-- so many bytes of the code at CS:EIP, from byte n on
+abbrev pub code_bytes : Physical → Regs → ℕ → ℕ → List ℕ
+code_bytes physical r n zero = []
+code_bytes physical r n (suc count) = code_byte physical r n ∷ code_bytes physical r (n + 1) count
+
+-- an instruction of so many bytes stands at CS:EIP, and ends at offset FFFFh or before
+pub record StandsAt (physical : Physical) (r : Regs) (insn : Insn) (count : ℕ) : Type 0 where
+  pub within : count ≤ 15
+  pub inside : r.eip + count ≤ 0x10000
+  pub spelt : Spelt (code_bytes physical r 0 count) false insn
 
 -- EIP behind an instruction. Own: EIP is not cut.
-abbrev pub behind : Regs → Spelling → ℕ
-behind r s = (r.eip + s.length) % 2 ^ 32
+abbrev pub behind : Regs → ℕ → ℕ
+behind r count = (r.eip + count) % 2 ^ 32
+
+-- ---- what it leaves
 
 abbrev pub landed : Next → Regs → ℕ → Regs
 landed next.Landed r back = r
@@ -64,40 +53,47 @@ abbrev pub activity_after : Next → Activity
 activity_after next.Halt = Halted
 activity_after _ = Running
 
--- what an instruction leaves of the processor
-pub record Completed : Type 0 where
-  pub regs : Regs
-  pub activity : Activity
-
-abbrev pub completed : After → ℕ → Completed
-completed after back = record { regs = landed after.next after.regs back; activity = activity_after after.next }
-
--- an instruction is executed
-unfoldable pub executed : Regs → Spelling → Completed
-executed r s = completed (effect s.insn r (behind r s)) (behind r s)
-
--- the processor behind an instruction; what was held back for it is so no longer
-abbrev pub with_completed : Core → Completed → Core
-with_completed core c = record core { regs = c.regs; activity = c.activity; latches = record core.latches { hold = 0 } }
-
+-- one step more
 abbrev pub counted : Core → Core
 counted core = record core { steps = core.steps + 1 }
 
--- the processor after a step, if the step is built
-abbrev pub by_boundary : Boundary → Physical → Core → Option Core
-by_boundary Idle physical core = Some core
-by_boundary Execute physical core = option_map (λ (s : Spelling). with_completed core (executed core.regs s)) (instruction_at physical core.regs)
-by_boundary Deliver physical core = None
+-- the processor behind an instruction; what was held back for it is so no longer
+abbrev pub completed : Core → After → ℕ → Core
+completed core after back = record (counted core) {
+  regs = landed after.next after.regs back;
+  activity = activity_after after.next;
+  latches = record core.latches { hold = 0 };
+}
 
-unfoldable pub stepped : State → Option State
-stepped s = option_map (λ (core : Core). record s { core = counted core }) (by_boundary (boundary s.core) s.mem.physical s.core)
+-- ---- the step
 
--- A step with this choice. Nothing built leaves a flag undefined or reaches a page's entry, so
--- every value of the flags is the same and there is no item.
-pub record Step (s : State) (choice : Choice) (t : State) : Type 0 where
-  pub next : stepped s ≡ Some t
-  pub served : choice.served ≡ []
+-- An instruction that is built stands at CS:EIP. All of what it does passes, for this choice of
+-- undefined flags and by these items, which are used in order and wholly.
+pub record Executes (policy : Policy) (s : State) (choice : Choice) (t : State) : Type 0 where
+  pub insn : Insn
+  pub count : ℕ
+  pub mode : IsTrue (is_plain_mode s.core.regs)
+  pub stands : StandsAt s.mem.physical s.core.regs insn count
+  pub built : IsTrue (is_built insn)
+  pub after : After
+  pub passed : attempt (by_list policy) 0 (effect insn s.core.regs (behind s.core.regs count) choice.flags) (with_items s.mem choice.served) ≡ (Passed after, t.mem)
+  pub wholly : t.mem.served ≡ []
+  pub core : t.core ≡ completed s.core after (behind s.core.regs count)
 
--- the next step is not built. Own: Steps that are not built.
-abbrev pub IsUnbuilt : State → Type 0
-IsUnbuilt s = stepped s ≡ None
+-- nothing happens
+pub record Idles (s : State) (choice : Choice) (t : State) : Type 0 where
+  pub same : t ≡ record s { core = counted s.core }
+  pub none : choice.served ≡ []
+
+abbrev pub StepBy : Boundary → Policy → State → Choice → State → Type 0
+StepBy Idle policy s choice t = Idles s choice t
+StepBy Execute policy s choice t = Executes policy s choice t
+StepBy Deliver policy s choice t = ⊥
+
+-- a step with this choice, each item of which meets the policy
+unfoldable pub Step : Policy → State → Choice → State → Type 0
+Step policy s choice t = StepBy (boundary s.core) policy s choice t
+
+-- no step is built that goes on from here. Own: Steps that are not built.
+abbrev pub IsUnbuilt : Policy → State → Type 0
+IsUnbuilt policy s = (choice : Choice) (t : State) → Step policy s choice t → ⊥
