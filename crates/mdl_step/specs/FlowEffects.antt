@@ -19,18 +19,18 @@ use Rattle.mdl_step.specs.Operands.{After, not_built}
 abbrev pub general_protection : ℕ → Fault
 general_protection code = record { vector = 13; code = code; addr = 0 }
 
--- an EIP set, which may not lie past the limit of CS
-abbrev pub landing : Regs → ℕ → Plan After
-landing r eip = if nat_le eip (seg_of r Cs).limit then Done (record { regs = record r { eip = eip }; next = next.Landed }) else Fail (general_protection 0)
+-- EIP set in these registers, unless it lies past the limit of CS
+abbrev pub landing : Regs → Regs → ℕ → Plan After
+landing r moved eip = if nat_le eip (seg_of r Cs).limit then Done (record { regs = record moved { eip = eip }; next = next.Landed }) else Fail (general_protection 0)
 
 -- a jump by so much from behind the instruction, cut to the operand size
 abbrev pub jump_by : Operand → Size → Regs → ℕ → Plan After
-jump_by (Rel displacement) size r back = landing r ((back + displacement) % bound_of size)
+jump_by (Rel displacement) size r back = landing r r ((back + displacement) % bound_of size)
 jump_by _ size r back = not_built
 
--- a jump to a selector and an offset, which may not lie past the limit of CS
+-- a jump to a selector and an offset; the limit of CS stays
 abbrev pub jump_to : Operand → Regs → Plan After
-jump_to (Far selector offset) r = landing (with_code_selector r selector) offset
+jump_to (Far selector offset) r = landing r (with_code_selector r selector) offset
 jump_to _ r = not_built
 
 unfoldable pub jump_plan : Insn → Regs → ℕ → Plan After

@@ -56,7 +56,7 @@ with_value r _ value = r
 abbrev pub with_flags : Regs → Status → ℕ → Regs
 with_flags r status free = record r { eflags = flags_after status r.eflags free }
 
--- an operand that is read. Own: Memory operands are not built.
+-- an operand that is read. Own: Steps that are not built.
 abbrev pub reading : Regs → Operand → (ℕ → Plan After) → Plan After
 reading r operand k = if is_plain operand then k (value_of r operand) else not_built
 
