@@ -12,7 +12,7 @@ const SEGMENT_END: u32 = 0x10000;
 
 /// Byte n of the code at CS:EIP.
 #[tactic(auto, unfolding(mdl_state::specs::Step::code_byte, mdl_state::specs::Registers::seg_of))]
-fn code_byte(memory: &Memory, regs: &Regs, n: u32) -> u8
+pub(crate) fn code_byte(memory: &Memory, regs: &Regs, n: u32) -> u8
     ensures { result ≡ code_byte memory.now regs.now n }
 {
     memory.byte(regs.seg[1].base.wrapping_add(regs.eip).wrapping_add(n))

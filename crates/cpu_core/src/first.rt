@@ -5,9 +5,9 @@ ghost use Rattle.std.specs.Bool.{OnTrue, OnFalse};
 ghost use Rattle.mdl_state.specs.Boot.{reset_regs, reset_state};
 ghost use Rattle.mdl_state.specs.Memory.{byte_at, IsRamLength, IsRomLength};
 ghost use Rattle.mdl_state.specs.Instructions.{IsEncoded};
-ghost use Rattle.mdl_state.specs.Step.{stepped, IsUnbuilt, landed, activity_after, executed, is_plain};
+ghost use Rattle.mdl_state.specs.Step.{code_byte, stepped, IsUnbuilt, landed, activity_after, executed, is_plain};
 
-use crate::decode::instruction_at;
+use crate::decode::{code_byte, instruction_at};
 use crate::effects::run;
 use crate::memory::Memory;
 use guest_ram::Ram;
@@ -167,6 +167,13 @@ impl First {
         ensures { result ≡ self.now.core.activity }
     {
         self.activity
+    }
+
+    /// The byte at CS:EIP.
+    pub fn code_byte(&self) -> u8
+        ensures { result ≡ code_byte self.now.mem.physical self.now.core.regs 0 }
+    {
+        code_byte(&self.memory, &self.regs, 0)
     }
 
     /// The byte at a physical address.
