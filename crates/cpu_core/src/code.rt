@@ -4,7 +4,7 @@ ghost use Rattle.std.specs.Prelude.{◌≡◌, ℕ, IfSome, IfNone};
 ghost use Rattle.mdl_state.specs.declared.Seg.TheVariants.{Cs};
 ghost use Rattle.mdl_state.specs.Registers.{seg_of};
 ghost use Rattle.mdl_insn.specs.declared.instruction.Insn.{Insn};
-ghost use Rattle.mdl_step.specs.Step.{StandsAt};
+ghost use Rattle.mdl_step.specs.Step.{code_byte, StandsAt};
 ghost use Rattle.insn_decode.specs.Slices.{gives_byte};
 ghost use Rattle.cpu_core.specs.Code.{code_left};
 
@@ -55,6 +55,14 @@ pub(crate) fn code_segment(regs: &Regs) -> Hidden
     ensures { result ≡ seg_of regs.now Cs }
 {
     regs.seg[CS]
+}
+
+/// The byte at CS:EIP.
+#[tactic(auto, unfolding(mdl_step::specs::Step::code_byte))]
+pub(crate) fn code_byte(memory: &Memory, regs: &Regs) -> u8
+    ensures { result ≡ code_byte memory.now regs.now 0 }
+{
+    memory.byte(code_segment(regs).base.wrapping_add(regs.eip))
 }
 
 /// The instruction at CS:EIP is put into `insn`. The answer is its length, or that none ends within

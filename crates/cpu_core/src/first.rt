@@ -5,11 +5,11 @@ ghost use Rattle.std.specs.Bool.{OnTrue, OnFalse};
 ghost use Rattle.mdl_state.specs.Boot.{reset_regs, reset_state};
 ghost use Rattle.mdl_state.specs.Memory.{byte_at, IsRamLength, IsRomLength};
 ghost use Rattle.mdl_state.specs.Policy.{meets_any};
-ghost use Rattle.mdl_step.specs.Step.{IsUnbuilt, landed, activity_after, is_plain_mode};
+ghost use Rattle.mdl_step.specs.Step.{code_byte, IsUnbuilt, landed, activity_after, is_plain_mode};
 ghost use Rattle.mdl_step.specs.RunLaws.{SomeStep};
 ghost use Rattle.exec_data.specs.Whole.{whole};
 
-use crate::code::instruction_at;
+use crate::code::{code_byte, instruction_at};
 use crate::memory::Memory;
 use crate::run::run;
 use guest_ram::Ram;
@@ -187,6 +187,14 @@ impl First {
     {
         let _ = &self.memory;
         0
+    }
+
+    /// The byte at CS:EIP.
+    #[tactic(auto, unfolding(mdl_step::specs::Step::code_byte, mdl_state::specs::Registers::seg_of))]
+    pub fn code_byte(&self) -> u8
+        ensures { result ≡ code_byte self.now.mem.physical self.now.core.regs 0 }
+    {
+        code_byte(&self.memory, &self.regs)
     }
 
     /// The byte at a physical address.

@@ -4,6 +4,6 @@ use Rattle.m386.proofs.machine.run.Given as goal
 
 abbrev pub invariant-loop-step : goal.invariant-loop-step
 invariant-loop-step l = record {
-  made : StepsFor l._step [] l.fn.first l.first;
-  count : l.first.core.steps ≡ l._step;
+  made : StepsFor l.step [] l.fn.first l.first;
+  count : l.first.core.steps ≡ l.step;
 }
