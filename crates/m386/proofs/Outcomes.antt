@@ -11,9 +11,10 @@ use Rattle.host_io.specs.Transfers.{IsWhole, AppendsPrefix}
 use Rattle.mdl_state.specs.State.{State}
 use Rattle.mdl_state.specs.Memory.{IsRomLength}
 use Rattle.mdl_state.specs.Boot.{boot}
-use Rattle.mdl_state.specs.Run.{Steps, ReachesUnbuilt}
-use Rattle.mdl_state.specs.RunLaws.{StepsFor, none_beyond, no_walks}
-use Rattle.mdl_state.specs.Report.{report_text}
+use Rattle.mdl_step.specs.Run.{ReachesUnbuilt}
+use Rattle.mdl_state.specs.Policy.{meets_any}
+use Rattle.mdl_step.specs.RunLaws.{StepsFor, counted_walks}
+use Rattle.mdl_step.specs.Report.{report_text}
 use Rattle.m386.specs.declared.refusals.Refusal.{Refusal}
 use Rattle.m386.specs.declared.refusals.Refusal.TheVariants as refusals
 use Rattle.m386.specs.declared.status.Status.{Status}
@@ -53,27 +54,19 @@ one_run words j k m n =
 -- ---- runs
 
 -- what a run that is not built says of the run that is asked for
-unbuilt_same : (words : List (List ℕ)) (left : Option (List ℕ)) (job asked : RunJob) (steps byte : ℕ) (rom : List ℕ) → IsStopped job left steps byte → IsRun words job → IsRun words asked → left ≡ Some rom → ReachesUnbuilt (boot 4 rom) [] asked.steps
+unbuilt_same : (words : List (List ℕ)) (left : Option (List ℕ)) (job asked : RunJob) (steps byte : ℕ) (rom : List ℕ) → IsStopped job left steps byte → IsRun words job → IsRun words asked → left ≡ Some rom → ReachesUnbuilt meets_any (boot 4 rom) [] asked.steps
 unbuilt_same words left job asked steps byte rom stopped is other told =
     let same : stopped.rom ≡ rom = subst (λ (l : Option (List ℕ)). IsWhole l stopped.rom) told stopped.whole in
-    subst (λ (j : RunJob). ReachesUnbuilt (boot 4 rom) [] j.steps) (one_run words job asked is other)
-    (subst (λ (r : List ℕ). ReachesUnbuilt (boot 4 r) [] job.steps) same stopped.at.reaches)
-
--- a run that is done comes to no step that is not built
-headline_built : (words : List (List ℕ)) (left before now : Option (List ℕ)) (rom_path report_path : Option (Option (List ℕ))) (job : RunJob) (rom : List ℕ) → Headline words left before now rom_path report_path → IsRun words job → left ≡ Some rom → ReachesUnbuilt (boot 4 rom) [] job.steps → ⊥
-headline_built words left before now rom_path report_path job rom h matched told reaches =
-    let same : h.rom ≡ rom = subst (λ (l : Option (List ℕ)). IsWhole l h.rom) told h.whole in
-    let jobs : h.job ≡ job = one_run words h.job job h.matched matched in
-    none_beyond [] (boot 4 rom) reaches.last h.last reaches.choices h.choices reaches.run.1 reaches.unbuilt
-    (subst (λ (r : List ℕ). Steps [] (boot 4 r) h.choices h.last) same h.run.1) (subst (λ (k : ℕ). length reaches.choices < k) (sym (h.as_many ∙ ap (λ (j : RunJob). j.steps) jobs)) reaches.before)
+    subst (λ (j : RunJob). ReachesUnbuilt meets_any (boot 4 rom) [] j.steps) (one_run words job asked is other)
+    (subst (λ (r : List ℕ). ReachesUnbuilt meets_any (boot 4 r) [] job.steps) same stopped.at.reaches)
 
 -- a run of a ROM from boot
 pub record IsMade (left : Option (List ℕ)) (job : RunJob) (rom : List ℕ) (last : State) : Type 0 where
   pub whole : IsWhole left rom
   pub size : IsRomLength (length rom)
-  pub made : StepsFor job.steps [] (boot 4 rom) last
+  pub made : StepsFor meets_any job.steps [] (boot 4 rom) last
 
-pub headline_of : (words : List (List ℕ)) (left before now : Option (List ℕ)) (rom_path report_path : Option (Option (List ℕ))) (job : RunJob) (rom : List ℕ) (last : State) → IsRun words job → IsMade left job rom last → Appends before now (report_text last 0) → WasOpened rom_path job.path → WasOpened report_path [] → Headline words left before now rom_path report_path
+pub headline_of : (words : List (List ℕ)) (left before now : Option (List ℕ)) (rom_path report_path : Option (Option (List ℕ))) (job : RunJob) (rom : List ℕ) (last : State) → IsRun words job → IsMade left job rom last → Appends before now (report_text last last.mem.walks) → WasOpened rom_path job.path → WasOpened report_path [] → Headline words left before now rom_path report_path
 headline_of words left before now rom_path report_path job rom last matched m report rom_opened report_opened = record {
   job = job;
   matched = matched;
@@ -84,12 +77,12 @@ headline_of words left before now rom_path report_path job rom last matched m re
   last = last;
   as_many = m.made.count;
   run = (refl, m.made.ran);
-  report = subst (λ (w : ℕ). Appends before now (report_text last w)) (sym (no_walks [] (boot 4 rom) last m.made.choices m.made.ran)) report;
+  report = subst (λ (w : ℕ). Appends before now (report_text last w)) (m.made.walks ∙ counted_walks m.made.choices) report;
   rom_opened = rom_opened;
   report_opened = report_opened;
 }
 
-pub report_cut : (left before now : Option (List ℕ)) (job : RunJob) (rom : List ℕ) (last : State) → IsMade left job rom last → AppendsPrefix before now (report_text last 0) → IsReportCut job left before now
+pub report_cut : (left before now : Option (List ℕ)) (job : RunJob) (rom : List ℕ) (last : State) → IsMade left job rom last → AppendsPrefix before now (report_text last last.mem.walks) → IsReportCut job left before now
 report_cut left before now job rom last m report = record {
   rom = rom;
   whole = m.whole;
@@ -98,7 +91,7 @@ report_cut left before now job rom last m report = record {
   last = last;
   as_many = m.made.count;
   run = (refl, m.made.ran);
-  report = subst (λ (w : ℕ). AppendsPrefix before now (report_text last w)) (sym (no_walks [] (boot 4 rom) last m.made.choices m.made.ran)) report;
+  report = subst (λ (w : ℕ). AppendsPrefix before now (report_text last w)) (m.made.walks ∙ counted_walks m.made.choices) report;
 }
 
 -- ---- what is done
@@ -110,10 +103,6 @@ done_matched words left before now rom_path report_path (inr l) none = none (ToL
 pub done_listed : (words : List (List ℕ)) (left before now : Option (List ℕ)) (rom_path report_path : Option (Option (List ℕ))) (job : DisJob) → IsDone words left before now rom_path report_path → IsDis words job → Listed words left before now rom_path report_path
 done_listed words left before now rom_path report_path job (inl h) is = absurd (not_both words h.job job h.matched is)
 done_listed words left before now rom_path report_path job (inr l) is = l
-
-pub done_built : (words : List (List ℕ)) (left before now : Option (List ℕ)) (rom_path report_path : Option (Option (List ℕ))) (job : RunJob) (rom : List ℕ) → IsDone words left before now rom_path report_path → IsRun words job → left ≡ Some rom → ReachesUnbuilt (boot 4 rom) [] job.steps → ⊥
-done_built words left before now rom_path report_path job rom (inl h) is told reaches = headline_built words left before now rom_path report_path job rom h is told reaches
-done_built words left before now rom_path report_path job rom (inr l) is told reaches = not_both words job l.job is l.matched
 
 -- ---- what is refused
 
@@ -162,7 +151,7 @@ completed words left before now f g h asked rom (refusals.Unbuilt steps byte) st
 completed words left before now f g h asked rom refusals.Cut status e is matched told size calm same later built =
     absurd (calm (Out Report, omega (arith, later, e.2.0.rose)))
 
-pub run_is_built : (words : List (List ℕ)) (left : Option (List ℕ)) (asked : RunJob) (rom : List ℕ) → IsRun words asked → left ≡ Some rom → ¬ (ReachesUnbuilt (boot 4 rom) [] asked.steps) → (command : Command) (steps byte : ℕ) → Matched words command → IsUnbuilt command left steps byte → ⊥
+pub run_is_built : (words : List (List ℕ)) (left : Option (List ℕ)) (asked : RunJob) (rom : List ℕ) → IsRun words asked → left ≡ Some rom → ¬ (ReachesUnbuilt meets_any (boot 4 rom) [] asked.steps) → (command : Command) (steps byte : ℕ) → Matched words command → IsUnbuilt command left steps byte → ⊥
 run_is_built words left asked rom is told built (ToRun job) steps byte matched unbuilt = built (unbuilt_same words left job asked steps byte rom unbuilt matched is told)
 run_is_built words left asked rom is told built (ToList job) steps byte matched unbuilt = unbuilt
 

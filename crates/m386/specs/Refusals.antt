@@ -11,9 +11,10 @@ use Rattle.host_io.specs.Transfers.{IsWhole, AppendsPrefix}
 use Rattle.mdl_state.specs.State.{State, Choice}
 use Rattle.mdl_state.specs.Memory.{IsRomLength}
 use Rattle.mdl_state.specs.Boot.{boot}
-use Rattle.mdl_state.specs.Run.{Run, ReachesUnbuilt, walk_count}
-use Rattle.mdl_state.specs.Step.{code_byte}
-use Rattle.mdl_state.specs.Report.{report_text}
+use Rattle.mdl_state.specs.Policy.{meets_any}
+use Rattle.mdl_step.specs.Run.{Run, ReachesUnbuilt, walk_count}
+use Rattle.mdl_step.specs.Step.{code_byte}
+use Rattle.mdl_step.specs.Report.{report_text}
 use Rattle.mdl_insn.specs.Text.{hex}
 use Rattle.m386.specs.declared.refusals.Refusal.{Refusal}
 use Rattle.m386.specs.declared.refusals.Refusal.TheVariants as refusals
@@ -84,7 +85,7 @@ pub record OnlyRose (slot : Slot) (before now : Slot → ℕ) : Type 0 where
 
 -- some run from a state ends after so many steps, below the bound, where this byte stands at CS:EIP and the next step is not built
 pub record IsUnbuiltAt (s : State) (bound steps byte : ℕ) : Type 0 where
-  pub reaches : ReachesUnbuilt s [] bound
+  pub reaches : ReachesUnbuilt meets_any s [] bound
   pub count : steps ≡ length reaches.choices
   pub code : byte ≡ code_byte reaches.last.mem.physical reaches.last.core.regs 0
 
@@ -108,7 +109,7 @@ pub record IsReportCut (job : RunJob) (rom_left report_before report_now : Optio
   pub choices : List Choice
   pub last : State
   pub as_many : length choices ≡ job.steps
-  pub run : Run (boot 4 rom) [] choices last
+  pub run : Run meets_any (boot 4 rom) [] choices last
   pub report : AppendsPrefix report_before report_now (report_text last (walk_count choices))
 
 -- an output grew by some first bytes of the listing that is asked for

@@ -3,7 +3,8 @@
 ghost use Rattle.std.specs.Prelude.{◌≡◌, ◌≤◌, ◌<◌, ◌^◌, ◌*◌, [], length, IfOk, IfErr, OnOk};
 ghost use Rattle.mdl_state.specs.Boot.{boot, empty_ram};
 ghost use Rattle.mdl_state.specs.Memory.{IsRomLength};
-ghost use Rattle.mdl_state.specs.RunLaws.{StepsFor};
+ghost use Rattle.mdl_state.specs.Policy.{meets_any};
+ghost use Rattle.mdl_step.specs.RunLaws.{StepsFor};
 ghost use Rattle.m386.specs.Refusals.{StopsAt};
 
 use crate::refusals::Refusal;
@@ -41,7 +42,7 @@ pub(crate) fn boot(alloc: Global, rom: Vec<u8>) -> Result<First, AllocError>
 pub(crate) fn run(first: &mut First, steps: u64) -> Result<(), Refusal>
     requires some { steps < 2 ^ 63 }
     requires boot { first.old.core.steps ≡ 0 }
-    ensures made { OnOk result (StepsFor steps [] first.old first.new) }
+    ensures made { OnOk result (StepsFor meets_any steps [] first.old first.new) }
     ensures count { OnOk result (first.new.core.steps ≡ steps) }
     ensures unbuilt { IfErr result (StopsAt first.old steps) }
 {

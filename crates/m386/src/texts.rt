@@ -3,7 +3,7 @@
 ghost use Rattle.std.specs.Prelude.{◌≡◌, ◌++◌, ◌+◌, ◌≤◌, ◌<◌, length};
 ghost use Rattle.std.specs.Fmt.{decimal};
 ghost use Rattle.arrayvec.specs.ArrayVec.{array_vec_len};
-ghost use Rattle.mdl_state.specs.Report.{named4, named8};
+ghost use Rattle.mdl_step.specs.Report.{named4, named8};
 ghost use Rattle.mdl_insn.specs.Text.{digit, hex};
 
 use arrayvec::ArrayVec;

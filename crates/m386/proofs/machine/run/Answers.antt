@@ -1,7 +1,8 @@
 use Rattle.std.proofs.Common.{◌<◌, [], refl, arith, subst, sym, ap, ◌∙◌, ℕ}
 use Rattle.mdl_state.specs.State.{State}
-use Rattle.mdl_state.specs.Step.{code_byte}
-use Rattle.mdl_state.specs.RunLaws.{steps_more}
+use Rattle.mdl_state.specs.Policy.{meets_any}
+use Rattle.mdl_step.specs.Step.{code_byte}
+use Rattle.mdl_step.specs.RunLaws.{steps_more}
 use Rattle.m386.proofs.machine.run.Goals as goal
 
 pub returns-then-not-step-clause-unbuilt : goal.returns-then-not-step-clause-unbuilt
@@ -19,6 +20,6 @@ returns-then-not-step-clause-unbuilt c = let made = c.loop-step.invariant.made i
 
 pub loop-step-preserved : goal.loop-step-preserved
 loop-step-preserved c = record {
-  made = steps_more c.loop-step.step [] c.args.first.now c.loop-step.first c.step.new.self c.loop-step.invariant.made c.if-not-step.ensures.made refl;
+  made = steps_more meets_any [] c.loop-step.step c.args.first.now c.loop-step.first c.step.new.self c.loop-step.invariant.made c.if-not-step.ensures.made refl;
   count = omega (arith, c.if-not-step.ensures.count, c.loop-step.invariant.count);
 }

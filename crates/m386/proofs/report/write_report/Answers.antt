@@ -1,7 +1,7 @@
 use Rattle.std.proofs.Common.{OnErr, Result, Ok, Err}
 use Rattle.host_io.specs.Prefixes.{prefix_then}
 use Rattle.host_io.specs.declared.host.OutSlot.TheVariants.{Report}
-use Rattle.mdl_state.specs.Report.{register_lines, screen_lines, report_text}
+use Rattle.mdl_step.specs.Report.{register_lines, screen_lines, report_text}
 use Rattle.m386.proofs.report.write_report.Goals as goal
 
 -- what holds anyway holds at an error

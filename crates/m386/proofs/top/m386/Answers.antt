@@ -1,5 +1,5 @@
 use Rattle.m386.specs.Words.{ToRun, ToList}
-use Rattle.m386.proofs.Outcomes.{done_matched, done_listed, done_built, completed, run_is_built, listing_is_built}
+use Rattle.m386.proofs.Outcomes.{done_matched, done_listed, completed, run_is_built, listing_is_built}
 use Rattle.m386.proofs.top.m386.Goals as goal
 
 pub returns-in-Ok-clause-listing : goal.returns-in-Ok-clause-listing
@@ -7,9 +7,6 @@ returns-in-Ok-clause-listing g c = λ job matched is. done_listed _ _ _ _ _ _ jo
 
 pub returns-in-Ok-clause-usage : goal.returns-in-Ok-clause-usage
 returns-in-Ok-clause-usage g c = (λ is. cc, λ none. absurd (done_matched _ _ _ _ _ _ c.in-Ok.ensures.ok none))
-
-pub returns-in-Ok-clause-built : goal.returns-in-Ok-clause-built
-returns-in-Ok-clause-built g c = λ job rom matched told is. done_built _ _ _ _ _ _ job rom c.in-Ok.ensures.ok matched told
 
 pub returns-in-Err-clause-complete : goal.returns-in-Err-clause-complete
 returns-in-Err-clause-complete g c = λ job rom matched told size calm built. completed _ _ _ _ _ _ _ (ToRun job) rom c.in-Err.refusal c.refuse.result c.in-Err.ensures.err c.refuse.ensures.status matched told size calm
