@@ -1,7 +1,7 @@
 -- A data instruction in an attempt, from what it is as a plan.
 use Rattle.std.proofs.Common.{◌≡◌, ℕ, refl, sym, ◌∙◌, ap, Bool, true, false}
-use Rattle.std.specs.Prelude.{Result, Ok, Err}
-use Rattle.std.proofs.lemmas.Bool.{and_parts, false≢true}
+use Rattle.std.specs.Prelude.{Result, Ok, Err, ◌&&◌}
+use Rattle.std.proofs.lemmas.Bool.{false≢true}
 use Rattle.mdl_state.specs.declared.Regs.{Regs}
 use Rattle.mdl_state.specs.declared.Fault.{Fault}
 use Rattle.mdl_state.specs.State.{Mem}
@@ -21,6 +21,10 @@ by_op_data ops.Jmpf insn r back free e = absurd (false≢true e)
 by_op_data ops.Hlt insn r back free e = absurd (false≢true e)
 by_op_data _ insn r back free e = refl
 
+first_of : (x y z w : Bool) → (x && y && z && w) ≡ true → x ≡ true
+first_of true y z w e = refl
+first_of false y z w e = e
+
 tried_done : (serve : Serve) (given : ℕ) (result : Result (Unit {0}) Fault) (r : Regs) (m : Mem) → tried serve given (done result r) m ≡ (after result r, m)
 tried_done serve given (Ok _) r m = refl
 tried_done serve given (Err fault) r m = refl
@@ -32,6 +36,6 @@ pub attempted : (insn : Insn) (result : Result (Unit {0}) Fault) (old new : Regs
 unfolding effect
 attempted insn result old new free plain plan serve given back m =
     sym (tried_done serve given result new m)
-    ∙ ap (λ p. tried serve given p m) (plan ∙ sym (by_op_data insn.op insn old back free (and_parts _ _ plain).0))
+    ∙ ap (λ p. tried serve given p m) (plan ∙ sym (by_op_data insn.op insn old back free (first_of _ _ _ _ plain)))
 
 pub ruleset attempts = (attempted)

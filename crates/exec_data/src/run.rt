@@ -106,7 +106,7 @@ fn run_formed(regs: &mut Regs, flags: &mut Flags, insn: &Insn) -> Result<(), Fau
 ///
 /// The status flags of EFLAGS are those of `flags`; of `regs` the call changes general registers
 /// alone.
-#[tactic(auto, using(mdl_step::proofs::FormLaws::forms, crate::proofs::Attempts::attempts))]
+#[tactic(auto, using(crate::proofs::Attempts::attempts))]
 pub fn run_plain(regs: &mut Regs, flags: &mut Flags, insn: &Insn) -> Result<(), Fault>
     requires spelt { (bytes : List ℕ) × (big : Bool) × Spelt bytes big insn.now }
     requires plain { IsTrue (is_plain_data insn.now) }
