@@ -1,0 +1,5 @@
+pub mod Statuses
+pub mod Logic
+pub mod Extensions
+pub mod Quotients
+pub mod Attempts
