@@ -3,7 +3,7 @@ use Rattle.std.proofs.Common.{◌≡◌, ◌≢◌, ℕ, ◌+◌, ◌%◌, Bool,
 use Rattle.std.specs.Prelude.{nat_le, ◌==◌, IsTrue}
 use Rattle.std.specs.Int.{bit_at, from_bool}
 use Rattle.mdl_state.specs.declared.Regs.{Regs}
-use Rattle.mdl_state.specs.declared.Size.{Size}
+use Rattle.mdl_state.specs.declared.Fault.{Fault}
 use Rattle.mdl_state.specs.declared.Next.TheVariants.{Follow, Landed, Halt}
 use Rattle.mdl_state.specs.declared.Seg.TheVariants.{Cs}
 use Rattle.mdl_state.specs.Bytes.{bit, bound_of}
@@ -22,7 +22,7 @@ use Rattle.mdl_insn.specs.declared.mnemonics.Op.TheVariants as ops
 use Rattle.mdl_step.specs.Step.{is_plain_mode}
 use Rattle.mdl_step.specs.Effects.{effect, is_built, is_plain_data, is_flow}
 use Rattle.mdl_step.specs.FlowEffects.{general_protection, landing, jump_plan, far_jump_plan, halt_plan}
-use Rattle.mdl_step.specs.DataEffects.{divide_error}
+use Rattle.mdl_step.proofs.FaultLaws.{same_fault}
 use Rattle.mdl_step.specs.Operands.{After}
 use Rattle.lazy_flags.specs.Keeper.{copied, with_status}
 use Rattle.exec_data.specs.Whole.{whole, KeepsOther}
@@ -62,12 +62,13 @@ plain_built insn h = rw h refl
 
 -- a data instruction that was run passes
 pub passes_plain : (insn : Insn) (old new : Regs) (back : ℕ) → is_plain_data insn ≡ true
-    → ((serve : Serve) (given : ℕ) (m : Mem) → (Passed (record { regs = new; next = Follow }), m) ≡ tried serve given (effect insn old back new.eflags) m) → Passes insn old back new Follow
-passes_plain insn old new back h run = record { built = plain_built insn h; tried = λ serve given m. sym (run serve given m) }
+    → ((serve : Serve) (given back : ℕ) (m : Mem) → (Passed (record { regs = new; next = Follow }), m) ≡ tried serve given (effect insn old back new.eflags) m) → Passes insn old back new Follow
+passes_plain insn old new back h run = record { built = plain_built insn h; tried = λ serve given m. sym (run serve given back m) }
 
 -- and one that was refused faults
-pub refused_plain : (insn : Insn) (old : Regs) (back : ℕ) → ((free : ℕ) (serve : Serve) (given : ℕ) (m : Mem) → tried serve given (effect insn old back free) m ≡ (Failed divide_error, m)) → IsRefused insn old back
-refused_plain insn old back run = λ _. record { fault = divide_error; tried = run }
+pub refused_plain : (insn : Insn) (old : Regs) (back free : ℕ) (fault : Fault)
+    → ((serve : Serve) (given back : ℕ) (m : Mem) → (Failed fault, m) ≡ tried serve given (effect insn old back free) m) → IsRefused insn old back
+refused_plain insn old back free fault run = λ _. record { fault = fault; tried = λ other serve given m. (same_fault insn old back).same serve given free other fault m m (sym (run serve given back m)) }
 
 -- ---- the jumps and HLT
 

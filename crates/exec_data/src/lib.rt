@@ -12,9 +12,11 @@ mod bits;
 mod conditions;
 mod kept;
 mod moves;
+mod plain;
 mod products;
 mod registers;
 mod run;
 mod shifts;
 
+pub use plain::is_plain_data;
 pub use run::run_plain;

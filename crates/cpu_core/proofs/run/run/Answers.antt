@@ -10,13 +10,13 @@ use Rattle.cpu_core.proofs.run.run.Goals as goal
 
 -- src/run.rt:24:22
 pub returns-in-Ok-clause-passes : goal.returns-in-Ok-clause-passes
-returns-in-Ok-clause-passes c = passes_plain c.args.insn.now _ _ c.args.back (sym c.is_plain_data.ensures ∙ c.if-is_plain_data.true) (c.in-Ok.ensures.run c.args.back)
+returns-in-Ok-clause-passes c = passes_plain c.args.insn.now _ _ c.args.back (sym c.is_plain_data.ensures ∙ c.if-is_plain_data.true) c.in-Ok.ensures.run
 
 pub returns-in-Ok-clause-mode : goal.returns-in-Ok-clause-mode
-returns-in-Ok-clause-mode c = kept_mode c.args.regs.now c.run_plain.new.regs c.args.flags.now c.run_plain.new.flags c.run_plain.ensures.others
+returns-in-Ok-clause-mode c = kept_mode c.args.regs.now c.run_plain.new.regs c.args.flags.now c.run_plain.new.flags c.run_plain.ensures.kept
 
 pub returns-in-Err-clause-refused : goal.returns-in-Err-clause-refused
-returns-in-Err-clause-refused c = refused_plain c.args.insn.now _ c.args.back (c.in-Err.ensures.refused c.args.back)
+returns-in-Err-clause-refused c = refused_plain c.args.insn.now _ c.args.back _ c.in-Err.field-0 c.in-Err.ensures.run
 
 pub returns-then-jump-clause-passes : goal.returns-then-jump-clause-passes
 unfolding seg_of
