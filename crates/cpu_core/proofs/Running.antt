@@ -1,5 +1,5 @@
 -- What running an instruction comes to, by its parts.
-use Rattle.std.proofs.Common.{◌≡◌, ◌≢◌, ℕ, ◌+◌, ◌%◌, Bool, true, false, ◌&&◌, ◌||◌, refl, sym, ap, subst, ◌∙◌, arith}
+use Rattle.std.proofs.Common.{◌≡◌, ◌≢◌, ℕ, ◌+◌, ◌%◌, Bool, true, false, ◌||◌, refl, sym, ap, subst, ◌∙◌, arith}
 use Rattle.std.specs.Prelude.{nat_le, ◌==◌, IsTrue}
 use Rattle.std.specs.Int.{bit_at, from_bool}
 use Rattle.mdl_state.specs.declared.Regs.{Regs}
@@ -29,7 +29,7 @@ use Rattle.exec_data.specs.Whole.{whole, KeepsOther}
 use Rattle.cpu_core.specs.declared.flow.Flow.{Flow}
 use Rattle.cpu_core.specs.declared.flow.Flow.TheVariants as flow
 use Rattle.cpu_core.specs.Flow.{flow_of}
-use Rattle.cpu_core.specs.Running.{Passes, Faults, IsRefused}
+use Rattle.cpu_core.specs.Running.{Passes, IsRefused}
 
 -- ---- the mode
 

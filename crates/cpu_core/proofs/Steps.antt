@@ -1,26 +1,26 @@
 -- Steps by their parts.
-use Rattle.std.proofs.Common.{◌≡◌, ◌≢◌, ℕ, zero, suc, ◌+◌, ◌%◌, ◌^◌, Bool, true, false, List, [], ◌∷◌, ◌++◌, refl, sym, ap, subst, ◌∙◌}
+use Rattle.std.proofs.Common.{◌≡◌, ◌≢◌, ℕ, zero, suc, ◌+◌, true, false, List, [], ◌++◌, refl, sym, ap, subst, ◌∙◌}
 use Rattle.std.specs.Prelude.{IsTrue, ⊤}
 use Rattle.mdl_state.specs.declared.Regs.{Regs}
 use Rattle.mdl_state.specs.declared.Activity.{Activity}
 use Rattle.mdl_state.specs.declared.Activity.TheVariants.{Running, Halted, Shutdown}
 use Rattle.mdl_state.specs.declared.Next.{Next}
 use Rattle.mdl_state.specs.declared.Next.TheVariants as next
-use Rattle.mdl_state.specs.State.{Physical, Mem, Core, State, Choice}
+use Rattle.mdl_state.specs.State.{Physical, Mem, State}
 use Rattle.mdl_state.specs.Boot.{clear_latches, plain_mem}
 use Rattle.mdl_state.specs.Registers.{seg_of}
 use Rattle.mdl_state.specs.Serving.{Policy, Outcome, Passed, Failed, NoStep, by_list, with_items}
-use Rattle.mdl_state.specs.Accesses.{committed, discarded}
-use Rattle.mdl_state.specs.Attempt.{finished, attempt, tried}
+use Rattle.mdl_state.specs.Accesses.{committed}
+use Rattle.mdl_state.specs.Attempt.{finished, attempt}
 use Rattle.mdl_insn.specs.declared.instruction.Insn.{Insn}
 use Rattle.mdl_insn.specs.Spelling.{Spelt}
 use Rattle.mdl_step.specs.Operands.{After}
 use Rattle.mdl_step.specs.Effects.{effect, is_built}
-use Rattle.mdl_step.specs.Boundary.{Boundary, Idle, Execute, boundary}
-use Rattle.mdl_step.specs.Step.{code_byte, code_bytes, StandsAt, is_plain_mode, behind, landed, activity_after, counted, completed, Executes, Idles, StepBy, Step, IsUnbuilt}
+use Rattle.mdl_step.specs.Boundary.{boundary}
+use Rattle.mdl_step.specs.Step.{code_byte, code_bytes, StandsAt, is_plain_mode, behind, landed, activity_after, completed, Step, IsUnbuilt}
 use Rattle.mdl_step.specs.RunLaws.{SomeStep}
 use Rattle.exec_data.specs.Whole.{whole}
-use Rattle.cpu_core.specs.Running.{Passes, Faults, IsRefused}
+use Rattle.cpu_core.specs.Running.{Passes, IsRefused}
 use Rattle.cpu_core.proofs.Standing.{one_stands}
 
 -- what stands at CS:EIP does not hang on the status flags

@@ -7,7 +7,6 @@ pub mod Accesses
 pub mod Attempt
 pub mod AttemptLaws
 pub mod Choices
-pub mod Unpaged
 pub mod Restart
 pub mod Policy
 pub mod PolicyLaws

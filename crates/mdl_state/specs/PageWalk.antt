@@ -1,6 +1,5 @@
 -- The walk of the page tables. Manual, chapter 5.
 use Rattle.std.specs.Prelude.{ℕ, ◌+◌, ◌-◌, ◌*◌, ◌/◌, ◌%◌, ◌^◌, ◌||◌, ◌&&◌, not, Bool, true, false, cond, if◌then◌else◌, Result, Ok, Err}
-use Rattle.mdl_state.specs.declared.Who.{Who}
 use Rattle.mdl_state.specs.declared.Who.TheVariants.{User}
 use Rattle.mdl_state.specs.declared.Access.{Access}
 use Rattle.mdl_state.specs.declared.Access.TheVariants.{Read, Write}

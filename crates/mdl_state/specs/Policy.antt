@@ -1,10 +1,9 @@
 -- Which items a memory with 64 places chooses, and a memory that keeps no entry.
 -- Own: Which cached entries serve.
-use Rattle.std.specs.Prelude.{ℕ, ◌/◌, ◌%◌, ◌==◌, ◌&&◌, not, Bool, true, false, List, [], ◌∷◌, Option, Some, None, Result, Ok, Err}
+use Rattle.std.specs.Prelude.{ℕ, ◌%◌, ◌==◌, ◌&&◌, not, Bool, true, false, List, [], ◌∷◌, Option, Some, None, Result, Ok, Err}
 use Rattle.std.specs.List.{filter, list_all}
 use Rattle.std.specs.FinMap.{FinMap, keys}
 use Rattle.std.specs.Ordering.{nat_cmp}
-use Rattle.mdl_state.specs.declared.Access.{Access}
 use Rattle.mdl_state.specs.declared.Entry.{Entry}
 use Rattle.mdl_state.specs.declared.Fault.{Fault}
 use Rattle.mdl_state.specs.State.{Physical, Mem, Item, Old, Walk}

@@ -1,5 +1,5 @@
 -- Whether an instruction faults, and how, does not hang on the flags that it leaves free.
-use Rattle.std.proofs.Common.{◌≡◌, ℕ, Bool, true, false, cond, refl, ap, subst, sym, ◌∙◌}
+use Rattle.std.proofs.Common.{◌≡◌, ℕ, Bool, true, false, subst}
 use Rattle.std.specs.Prelude.{◌==◌, if◌then◌else◌, ⊤, Result, Ok, Err}
 use Rattle.mdl_state.specs.declared.Regs.{Regs}
 use Rattle.mdl_state.specs.declared.Size.{Size}

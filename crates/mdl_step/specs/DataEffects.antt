@@ -1,6 +1,6 @@
 -- What the data instructions do: moves, arithmetic, logic, shifts, bits, adjusts and extensions.
 -- Manual, chapters 3 and 17.
-use Rattle.std.specs.Prelude.{ℕ, ◌+◌, ◌-◌, ◌*◌, ◌/◌, ◌%◌, ◌==◌, ◌&&◌, ◌||◌, not, nat_le, nat_lt, Bool, true, false, if◌then◌else◌, Result, Ok, Err}
+use Rattle.std.specs.Prelude.{ℕ, ◌-◌, ◌*◌, ◌/◌, ◌%◌, ◌==◌, ◌||◌, not, nat_le, Bool, true, false, if◌then◌else◌, Result, Ok, Err}
 use Rattle.std.specs.Int.{bit_at, from_bool}
 use Rattle.mdl_state.specs.declared.Size.{Size}
 use Rattle.mdl_state.specs.declared.Size.TheVariants.{B1, B2, B4}

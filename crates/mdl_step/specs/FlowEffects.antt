@@ -1,7 +1,6 @@
 -- What the jumps that are built and HLT do, in real mode. Manual, chapter 17, under JMP and HLT.
-use Rattle.std.specs.Prelude.{ℕ, ◌+◌, ◌%◌, ◌^◌, nat_le, Bool, true, false, if◌then◌else◌}
+use Rattle.std.specs.Prelude.{ℕ, ◌+◌, ◌%◌, nat_le, if◌then◌else◌}
 use Rattle.mdl_state.specs.declared.Size.{Size}
-use Rattle.mdl_state.specs.declared.Size.TheVariants.{B4}
 use Rattle.mdl_state.specs.declared.Seg.TheVariants.{Cs}
 use Rattle.mdl_state.specs.declared.Regs.{Regs}
 use Rattle.mdl_state.specs.declared.Fault.{Fault}
@@ -12,8 +11,6 @@ use Rattle.mdl_state.specs.Attempt.{Plan, Done, Fail}
 use Rattle.mdl_insn.specs.declared.instruction.Insn.{Insn}
 use Rattle.mdl_insn.specs.declared.instruction.Operand.{Operand}
 use Rattle.mdl_insn.specs.declared.instruction.Operand.TheVariants.{Rel, Far}
-use Rattle.mdl_insn.specs.declared.mnemonics.Op.{Op}
-use Rattle.mdl_insn.specs.declared.mnemonics.Op.TheVariants as ops
 use Rattle.mdl_step.specs.Operands.{After, not_built}
 
 abbrev pub general_protection : ℕ → Fault

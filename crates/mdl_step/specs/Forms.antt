@@ -1,5 +1,5 @@
 -- The sizes and numbers of the operands of data instructions, as the opcode rows give them.
-use Rattle.std.specs.Prelude.{◌≡◌, ◌≢◌, ◌<◌, ◌≤◌, ℕ, ⊤}
+use Rattle.std.specs.Prelude.{◌≡◌, ◌≢◌, ◌<◌, ◌≤◌, ⊤}
 use Rattle.mdl_state.specs.declared.Size.{Size}
 use Rattle.mdl_state.specs.declared.Size.TheVariants.{B1}
 use Rattle.mdl_state.specs.Bytes.{bytes_of, bound_of}

@@ -1,9 +1,9 @@
 -- Laws of runs: steps for some choices, whose walks are counted.
-use Rattle.std.specs.Prelude.{◌≡◌, ℕ, ◌+◌, ◌-◌, ◌^◌, ◌≤◌, ◌<◌, List, [], ◌∷◌, ◌++◌, length, min, refl}
+use Rattle.std.specs.Prelude.{◌≡◌, ℕ, ◌+◌, ◌-◌, ◌^◌, ◌≤◌, List, [], ◌∷◌, ◌++◌, length, min, refl}
 use Rattle.std.proofs.Common.{ap, sym, subst, ◌∙◌, length-append, arith}
 use Rattle.mdl_state.specs.declared.Event.{Event}
 use Rattle.mdl_state.specs.State.{State, Choice, Item, Old, Walk}
-use Rattle.mdl_state.specs.Serving.{Policy, counted}
+use Rattle.mdl_state.specs.Serving.{Policy}
 use Rattle.mdl_state.specs.Choices.{walks_after}
 use Rattle.mdl_step.specs.Step.{Step}
 use Rattle.mdl_step.specs.Run.{Steps, NoneDue, walks_of, all_walks, walk_count}

@@ -6,7 +6,7 @@ use Rattle.mdl_state.specs.declared.Activity.{Activity}
 use Rattle.mdl_state.specs.declared.Activity.TheVariants.{Running, Halted}
 use Rattle.mdl_state.specs.declared.Next.{Next}
 use Rattle.mdl_state.specs.declared.Next.TheVariants as next
-use Rattle.mdl_state.specs.State.{Physical, Mem, Core, State, Choice}
+use Rattle.mdl_state.specs.State.{Physical, Core, State, Choice}
 use Rattle.mdl_state.specs.Bytes.{bit}
 use Rattle.mdl_state.specs.Memory.{byte_at}
 use Rattle.mdl_state.specs.Registers.{seg_of}

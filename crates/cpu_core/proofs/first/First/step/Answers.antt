@@ -1,4 +1,4 @@
-use Rattle.std.proofs.Common.{sym, subst, ap, ◌∙◌, ◌+◌}
+use Rattle.std.proofs.Common.{subst, ap, ◌+◌}
 use Rattle.mdl_state.specs.State.{State}
 use Rattle.mdl_state.specs.Policy.{meets_any}
 use Rattle.mdl_step.specs.Step.{IsUnbuilt}
