@@ -1,14 +1,18 @@
 -- What the data instructions do: moves, arithmetic, logic, shifts, bits, adjusts and extensions.
 -- Manual, chapters 3 and 17.
-use Rattle.std.specs.Prelude.{ℕ, ◌-◌, ◌*◌, ◌/◌, ◌%◌, ◌==◌, ◌||◌, not, nat_le, Bool, true, false, if◌then◌else◌, Result, Ok, Err}
+use Rattle.std.specs.Prelude.{ℕ, ◌+◌, ◌-◌, ◌*◌, ◌/◌, ◌%◌, ◌^◌, ◌==◌, ◌&&◌, ◌||◌, not, nat_le, int_le, Bool, true, false, if◌then◌else◌, Result, Ok, Err, Some, unwrap_or}
 use Rattle.std.specs.Int.{bit_at, from_bool}
 use Rattle.mdl_state.specs.declared.Size.{Size}
 use Rattle.mdl_state.specs.declared.Size.TheVariants.{B1, B2, B4}
+use Rattle.mdl_state.specs.declared.Seg.{Seg}
+use Rattle.mdl_state.specs.declared.Seg.TheVariants.{Es, Ss, Ds, Fs, Gs}
+use Rattle.mdl_state.specs.declared.Next.{Next}
+use Rattle.mdl_state.specs.declared.Next.TheVariants.{Follow, HoldAll}
 use Rattle.mdl_state.specs.declared.Regs.{Regs}
 use Rattle.mdl_state.specs.declared.Fault.{Fault}
-use Rattle.mdl_state.specs.Bytes.{bits_of, bound_of}
-use Rattle.mdl_state.specs.Registers.{reg_of, with_reg}
-use Rattle.mdl_state.specs.Attempt.{Plan, Fail}
+use Rattle.mdl_state.specs.Bytes.{bytes_of, bits_of, bound_of}
+use Rattle.mdl_state.specs.Registers.{reg_of, with_reg, seg_of}
+use Rattle.mdl_state.specs.Attempt.{Plan, Done, Fail, then_plan}
 use Rattle.mdl_num.specs.declared.results.LogicOp.{LogicOp}
 use Rattle.mdl_num.specs.declared.results.LogicOp.TheVariants as logic
 use Rattle.mdl_num.specs.declared.results.ShiftOp.{ShiftOp}
@@ -29,9 +33,15 @@ use Rattle.mdl_num.specs.Rotates.{rotate_value, rotate_status}
 use Rattle.mdl_num.specs.Bits.{bit_test_value, bit_test_status, scan_value, scan_status}
 use Rattle.mdl_num.specs.Decimal.{al_of, daa_value, daa_status, das_value, das_status, aaa_value, aas_value, ascii_status, aam_value, aad_value, digits_status}
 use Rattle.mdl_insn.specs.declared.instruction.Insn.{Insn}
+use Rattle.mdl_insn.specs.declared.instruction.Mem.{Mem}
+use Rattle.mdl_insn.specs.declared.instruction.Operand.{Operand}
+use Rattle.mdl_insn.specs.declared.instruction.Operand.TheVariants.{Gpr, Sreg, Creg, Dreg, At}
+use Rattle.mdl_cpu.specs.Addresses.{part_of, offset_bound, offset_of}
+use Rattle.mdl_cpu.specs.Segments.{is_protected, is_big}
+use Rattle.mdl_cpu.specs.Loads.{load_plan}
 use Rattle.mdl_insn.specs.declared.mnemonics.Op.{Op}
 use Rattle.mdl_insn.specs.declared.mnemonics.Op.TheVariants as ops
-use Rattle.mdl_step.specs.Operands.{After, Made, follow, not_built, is_nothing, size_of, with_value, with_flags, reading, writing, updating}
+use Rattle.mdl_step.specs.Operands.{After, Made, follow, no_such, load_from, change_in, memory_write, is_plain, is_nothing, size_of, value_of, with_value, with_flags, reading, writing, updating}
 
 -- a number, and what its making does with the flags
 pub record Answer : Type 0 where
@@ -56,6 +66,94 @@ move_plan insn r = reading r insn.b (λ value. writing r insn.a value)
 
 unfoldable pub sign_extend_plan : Insn → Regs → Plan After
 sign_extend_plan insn r = reading r insn.b (λ value. writing r insn.a (sign_extended (size_of insn.b) insn.size value))
+
+-- what follows a load of a segment register: that of SS holds every interrupt and debug trap back
+abbrev pub after_load : Seg → Next
+after_load Ss = HoldAll
+after_load _ = Follow
+
+-- MOV to a segment register
+unfoldable pub load_segment_plan : Seg → Insn → Regs → Plan After
+load_segment_plan seg insn r = reading r insn.b (λ sel. then_plan (load_plan r seg sel) (λ q. Done (record { regs = q; next = after_load seg })))
+
+-- a register set in the size of the instruction
+abbrev pub with_sized : Regs → Operand → Size → ℕ → Regs
+with_sized r (Gpr n own) size value = with_reg r n size value
+with_sized r _ size value = r
+
+-- MOV from a segment register: a doubleword register is zero extended, and memory gets a word
+unfoldable pub store_segment_plan : Seg → Insn → Regs → Plan After
+store_segment_plan seg insn r =
+    if is_plain insn.a then follow (with_sized r insn.a insn.size (seg_of r seg).sel)
+    else then_plan (memory_write r insn.a (seg_of r seg).sel) (λ _. follow r)
+
+abbrev pub segment_move : Operand → Operand → Insn → Regs → Plan After
+segment_move (Sreg seg) b insn r = load_segment_plan seg insn r
+segment_move a (Sreg seg) insn r = store_segment_plan seg insn r
+segment_move _ _ insn r = move_plan insn r
+
+abbrev pub mov_plan : Insn → Regs → Plan After
+mov_plan insn r = if is_plain insn.a && is_plain insn.b then move_plan insn r else segment_move insn.a insn.b insn r
+
+-- ---- addresses, pointers and bounds
+
+-- LEA: the offset, cut or zero extended to the operand size; nothing is checked
+abbrev pub lea_of : Operand → Insn → Regs → Plan After
+lea_of (At mem size) insn r = follow (with_value r insn.a (offset_of r mem % bound_of insn.size))
+lea_of _ insn r = no_such
+
+unfoldable pub lea_plan : Insn → Regs → Plan After
+lea_plan insn r = lea_of insn.b insn r
+
+-- XLAT: the byte at BX or EBX and AL
+unfoldable pub xlat_plan : Insn → Regs → Plan After
+xlat_plan insn r = then_plan (load_from r (unwrap_or insn.over Ds) ((part_of r (Some 3) + reg_of r 0 B1) % offset_bound insn.wide) B1)
+    (λ value. follow (with_reg r 0 B1 value))
+
+-- LES to LGS: the offset, the selector behind it, and the load come before the register
+abbrev pub pointer_of : Seg → Operand → Insn → Regs → Plan After
+pointer_of seg (At mem size) insn r = then_plan (load_from r mem.seg (offset_of r mem) insn.size) (λ offset.
+    then_plan (load_from r mem.seg (offset_of r mem + bytes_of insn.size) B2) (λ sel.
+    then_plan (load_plan r seg sel) (λ q. follow (with_value q insn.a offset))))
+pointer_of seg _ insn r = no_such
+
+unfoldable pub pointer_plan : Seg → Insn → Regs → Plan After
+pointer_plan seg insn r = pointer_of seg insn.b insn r
+
+abbrev pub bound_fault : Fault
+bound_fault = record { vector = 5; code = 0; addr = 0 }
+
+-- a signed index between two bounds, both of them inclusive
+abbrev pub is_between : Size → ℕ → ℕ → ℕ → Bool
+is_between size index lower upper = int_le (signed_of size lower) (signed_of size index) && int_le (signed_of size index) (signed_of size upper)
+
+-- BOUND: the lower bound, and the upper one behind it
+abbrev pub bound_within : Operand → Insn → Regs → Plan After
+bound_within (At mem size) insn r = then_plan (load_from r mem.seg (offset_of r mem) insn.size) (λ lower.
+    then_plan (load_from r mem.seg (offset_of r mem + bytes_of insn.size) insn.size) (λ upper.
+    if is_between insn.size (value_of r insn.a) lower upper then follow r else Fail bound_fault))
+bound_within _ insn r = no_such
+
+unfoldable pub bound_plan : Insn → Regs → Plan After
+bound_plan insn r = bound_within insn.b insn r
+
+-- ESP or SP
+abbrev pub stack_size : Regs → Size
+stack_size r = if is_protected r && is_big (seg_of r Ss) then B4 else B2
+
+-- a number off the stack, and the registers then
+unfoldable pub pop_plan : Regs → Size → Plan (ℕ × Regs)
+pop_plan r size = then_plan (load_from r Ss (reg_of r 4 (stack_size r)) size) (λ value.
+    Done (value, with_reg r 4 (stack_size r) ((reg_of r 4 (stack_size r) + bytes_of size) % bound_of (stack_size r))))
+
+-- POP of a segment register reads the operand size, of which the low word is the selector
+abbrev pub pop_of : Operand → Insn → Regs → Plan After
+pop_of (Sreg seg) insn r = then_plan (pop_plan r insn.size) (λ popped.
+    then_plan (load_plan popped.1 seg (popped.0 % 2 ^ 16)) (λ q. Done (record { regs = q; next = after_load seg })))
+pop_of _ insn r = no_such
+
+unfoldable pub pop_segment_plan : Insn → Regs → Plan After
+pop_segment_plan insn r = pop_of insn.a insn r
 
 -- each operand gets the number of the other; with no operands nothing happens
 unfoldable pub exchange_plan : Insn → Regs → Plan After
@@ -222,14 +320,37 @@ double_shift_plan left insn r free = reading r insn.c (λ count. reading r insn.
 abbrev pub bit_place : Size → ℕ → ℕ
 bit_place size index = index % bits_of size
 
+-- how far a signed index moves the address of a memory operand, modulo the address size
+abbrev pub bit_distance : Size → ℕ → ℕ
+bit_distance size index = bytes_of size * (index / bits_of size) + (if nat_le (half_of size) index then 2 ^ 32 - bound_of size / 8 else 0)
+
+-- the offset of the word or doubleword that an index in a register names; an immediate moves nothing
+abbrev pub bit_offset : Regs → Mem → Operand → Size → ℕ → ℕ
+bit_offset r mem (Gpr n own) size index = (offset_of r mem + bit_distance size index) % offset_bound mem.wide
+bit_offset r mem _ size index = offset_of r mem
+
+abbrev pub bit_read : Regs → Operand → Insn → ℕ → Plan ℕ
+bit_read r (At mem size) insn index = load_from r mem.seg (bit_offset r mem insn.b insn.size index) size
+bit_read r _ insn index = no_such
+
+abbrev pub bit_change : Regs → Operand → Insn → ℕ → (ℕ → Made) → Plan After
+bit_change r (At mem size) insn index make = change_in r mem.seg (bit_offset r mem insn.b insn.size index) size make
+bit_change r _ insn index make = no_such
+
 -- BT: the flags alone
 unfoldable pub bit_test_plan : Insn → Regs → ℕ → Plan After
-bit_test_plan insn r free = reading r insn.b (λ index. reading r insn.a (λ a. follow (with_flags r (bit_test_status a (bit_place insn.size index)) free)))
+bit_test_plan insn r free = reading r insn.b (λ index.
+    if is_plain insn.a then follow (with_flags r (bit_test_status (value_of r insn.a) (bit_place insn.size index)) free)
+    else then_plan (bit_read r insn.a insn index) (λ a. follow (with_flags r (bit_test_status a (bit_place insn.size index)) free)))
 
--- BTS, BTR and BTC
+-- what BTS, BTR and BTC make
+abbrev pub bit_made : BitOp → Size → ℕ → Regs → ℕ → ℕ → Made
+bit_made op size index r free a = flagged r free (answer (bit_test_value op a (bit_place size index)) (bit_test_status a (bit_place size index)))
+
 unfoldable pub bit_change_plan : BitOp → Insn → Regs → ℕ → Plan After
-bit_change_plan op insn r free = reading r insn.b (λ index. updating r insn.a (λ a.
-    flagged r free (answer (bit_test_value op a (bit_place insn.size index)) (bit_test_status a (bit_place insn.size index)))))
+bit_change_plan op insn r free = reading r insn.b (λ index.
+    if is_plain insn.a then updating r insn.a (bit_made op insn.size index r free)
+    else bit_change r insn.a insn index (bit_made op insn.size index r free))
 
 -- BSF, upwards, and BSR
 unfoldable pub scan_plan : Bool → Insn → Regs → ℕ → Plan After
@@ -311,9 +432,34 @@ is_data ops.Bsr = true
 is_data (ops.Setcc number) = true
 is_data _ = false
 
+-- the mnemonics whose operands are memory or segment registers alone
+abbrev pub is_address : Op → Bool
+is_address ops.Lea = true
+is_address ops.Xlat = true
+is_address ops.Les = true
+is_address ops.Lds = true
+is_address ops.Lss = true
+is_address ops.Lfs = true
+is_address ops.Lgs = true
+is_address ops.Bound = true
+is_address _ = false
+
+abbrev pub is_special : Operand → Bool
+is_special (Creg n) = true
+is_special (Dreg n) = true
+is_special _ = false
+
+abbrev pub is_segment_pop : Op → Operand → Bool
+is_segment_pop ops.Pop (Sreg seg) = true
+is_segment_pop _ a = false
+
+-- the instruction is a data instruction: no MOV of a control or debug register, and of POP that of a segment register
+abbrev pub runs_data : Insn → Bool
+runs_data insn = (is_data insn.op && not (is_special insn.a) && not (is_special insn.b)) || is_address insn.op || is_segment_pop insn.op insn.a
+
 -- what an instruction of such a mnemonic does
 abbrev pub by_mnemonic : Op → Insn → Regs → ℕ → Plan After
-by_mnemonic ops.Mov insn r free = move_plan insn r
+by_mnemonic ops.Mov insn r free = mov_plan insn r
 by_mnemonic ops.Movzx insn r free = move_plan insn r
 by_mnemonic ops.Movsx insn r free = sign_extend_plan insn r
 by_mnemonic ops.Xchg insn r free = exchange_plan insn r
@@ -358,7 +504,16 @@ by_mnemonic ops.Btc insn r free = bit_change_plan bits.Btc insn r free
 by_mnemonic ops.Bsf insn r free = scan_plan true insn r free
 by_mnemonic ops.Bsr insn r free = scan_plan false insn r free
 by_mnemonic (ops.Setcc number) insn r free = set_plan number insn r
-by_mnemonic _ insn r free = not_built
+by_mnemonic ops.Lea insn r free = lea_plan insn r
+by_mnemonic ops.Xlat insn r free = xlat_plan insn r
+by_mnemonic ops.Les insn r free = pointer_plan Es insn r
+by_mnemonic ops.Lds insn r free = pointer_plan Ds insn r
+by_mnemonic ops.Lss insn r free = pointer_plan Ss insn r
+by_mnemonic ops.Lfs insn r free = pointer_plan Fs insn r
+by_mnemonic ops.Lgs insn r free = pointer_plan Gs insn r
+by_mnemonic ops.Bound insn r free = bound_plan insn r
+by_mnemonic ops.Pop insn r free = pop_segment_plan insn r
+by_mnemonic _ insn r free = no_such
 
 unfoldable pub data_effect : Insn → Regs → ℕ → Plan After
 data_effect insn r free = by_mnemonic insn.op insn r free

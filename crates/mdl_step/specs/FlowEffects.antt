@@ -11,7 +11,7 @@ use Rattle.mdl_state.specs.Attempt.{Plan, Done, Fail}
 use Rattle.mdl_insn.specs.declared.instruction.Insn.{Insn}
 use Rattle.mdl_insn.specs.declared.instruction.Operand.{Operand}
 use Rattle.mdl_insn.specs.declared.instruction.Operand.TheVariants.{Rel, Far}
-use Rattle.mdl_step.specs.Operands.{After, not_built}
+use Rattle.mdl_step.specs.Operands.{After, no_such}
 
 abbrev pub general_protection : ℕ → Fault
 general_protection code = record { vector = 13; code = code; addr = 0 }
@@ -23,12 +23,12 @@ landing r moved eip = if nat_le eip (seg_of r Cs).limit then Done (record { regs
 -- a jump by so much from behind the instruction, cut to the operand size
 abbrev pub jump_by : Operand → Size → Regs → ℕ → Plan After
 jump_by (Rel displacement) size r back = landing r r ((back + displacement) % bound_of size)
-jump_by _ size r back = not_built
+jump_by _ size r back = no_such
 
 -- a jump to a selector and an offset; the limit of CS stays
 abbrev pub jump_to : Operand → Regs → Plan After
 jump_to (Far selector offset) r = landing r (with_code_selector r selector) offset
-jump_to _ r = not_built
+jump_to _ r = no_such
 
 unfoldable pub jump_plan : Insn → Regs → ℕ → Plan After
 jump_plan insn r back = jump_by insn.a insn.size r back
