@@ -1,0 +1,25 @@
+//! The data instructions on general registers and numbers: moves, extensions, arithmetic, logic,
+//! products, quotients, decimal adjusts, shifts, rotates, bits and conditions.
+//!
+//! The one contract used above is `run_plain`: it does what the written machine says of the
+//! instruction. The status flags stand apart from EFLAGS, in a keeper. Read `specs/Whole.antt`
+//! first, then `DataEffects.antt` of `mdl_step`.
+#![tactic(auto)]
+
+mod adjusts;
+mod arithmetic;
+mod bits;
+mod conditions;
+mod kept;
+mod moves;
+mod plain;
+mod products;
+mod registers;
+mod run;
+mod shifts;
+
+pub use plain::is_plain_data;
+pub use run::run_plain;
+
+#[cfg(test)]
+mod examples;
