@@ -6,7 +6,7 @@ ghost use Rattle.mdl_state.specs.Serving.{by_pick};
 ghost use Rattle.mdl_state.specs.Accesses.{Keeps, HasRoom};
 ghost use Rattle.mdl_state.specs.Attempt.{tried};
 ghost use Rattle.mdl_cpu.specs.Segments.{has_protection};
-ghost use Rattle.mdl_cpu.specs.Loads.{with_selector, load_plan, loaded};
+ghost use Rattle.mdl_cpu.specs.Loads.{with_selector, load_plan, answered};
 
 use mdl_state::{Fault, Hidden, Regs, Seg};
 use mem_iface::Linear;
@@ -43,7 +43,7 @@ fn set_selector(regs: &mut Regs, seg: Seg, sel: u16)
 pub fn load_data<L: Linear>(regs: &mut Regs, lin: &mut L, seg: Seg, sel: u16) -> Result<(), Fault>
     requires mode { has_protection regs.old ≡ false }
     requires room { HasRoom (L.seen lin.old) 1 }
-    ensures run { (loaded result regs.new, L.seen lin.new) ≡ tried (by_pick L.pick) 0 (load_plan regs.old seg sel) (L.seen lin.old) }
+    ensures run { (answered result regs.new, L.seen lin.new) ≡ tried (by_pick L.pick) 0 (load_plan regs.old seg sel) (L.seen lin.old) }
     ensures refused { OnErr result (regs.new ≡ regs.old) }
     ensures room { length (L.seen lin.new).held ≤ length (L.seen lin.old).held + 1 }
     ensures keeps { Keeps (L.seen lin.old) (L.seen lin.new) }
@@ -57,7 +57,7 @@ pub fn load_data<L: Linear>(regs: &mut Regs, lin: &mut L, seg: Seg, sel: u16) ->
 pub fn load_stack<L: Linear>(regs: &mut Regs, lin: &mut L, sel: u16) -> Result<(), Fault>
     requires mode { has_protection regs.old ≡ false }
     requires room { HasRoom (L.seen lin.old) 1 }
-    ensures run { (loaded result regs.new, L.seen lin.new) ≡ tried (by_pick L.pick) 0 (load_plan regs.old Ss sel) (L.seen lin.old) }
+    ensures run { (answered result regs.new, L.seen lin.new) ≡ tried (by_pick L.pick) 0 (load_plan regs.old Ss sel) (L.seen lin.old) }
     ensures refused { OnErr result (regs.new ≡ regs.old) }
     ensures room { length (L.seen lin.new).held ≤ length (L.seen lin.old).held + 1 }
     ensures keeps { Keeps (L.seen lin.old) (L.seen lin.new) }

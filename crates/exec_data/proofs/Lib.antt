@@ -3,3 +3,4 @@ pub mod Logic
 pub mod Extensions
 pub mod Quotients
 pub mod Attempts
+pub mod Modes

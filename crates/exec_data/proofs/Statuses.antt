@@ -1,5 +1,5 @@
 -- Status flags that are packed into EFLAGS, unpacked, and packed again.
-use Rattle.std.proofs.Common.{◌≡◌, ◌≢◌, ℕ, refl, sym, ◌∙◌, ap, arith, inl, inr, Bool, true, false, zero, suc, ◌<◌}
+use Rattle.std.proofs.Common.{◌≡◌, ◌≢◌, ℕ, refl, sym, ◌∙◌, ap, arith, inl, inr, Bool, false, zero, suc, ◌<◌}
 use mathlib.Core.Bool.{beq}
 use Rattle.std.specs.Prelude.{◌==◌, not}
 use Rattle.std.specs.Int.{bit_at, from_bool}
@@ -56,7 +56,8 @@ unfolding with_status
 carry_bit e F = copied_other OF F _ CF (omega arith) ∙ copied_other SF F _ CF (omega arith) ∙ copied_other ZF F _ CF (omega arith)
     ∙ copied_other AF F _ CF (omega arith) ∙ copied_other PF F _ CF (omega arith) ∙ copied_own CF F _
 
-other_bit : (e F j : ℕ) → j ≢ CF → j ≢ PF → j ≢ AF → j ≢ ZF → j ≢ SF → j ≢ OF → bit_at (with_status e F) j ≡ bit_at e j
+-- a bit that is no status flag's is that of EFLAGS
+pub other_bit : (e F j : ℕ) → j ≢ CF → j ≢ PF → j ≢ AF → j ≢ ZF → j ≢ SF → j ≢ OF → bit_at (with_status e F) j ≡ bit_at e j
 unfolding with_status
 other_bit e F j c p a z n o = copied_other OF F _ j o ∙ copied_other SF F _ j n ∙ copied_other ZF F _ j z
     ∙ copied_other AF F _ j a ∙ copied_other PF F _ j p ∙ copied_other CF F _ j c
@@ -65,12 +66,27 @@ same_flags : (x y : ℕ) → bit_at x CF ≡ bit_at y CF → bit_at x PF ≡ bit
     → bit_at x ZF ≡ bit_at y ZF → bit_at x SF ≡ bit_at y SF → bit_at x OF ≡ bit_at y OF
     → ((j : ℕ) → j ≢ CF → j ≢ PF → j ≢ AF → j ≢ ZF → j ≢ SF → j ≢ OF → bit_at x j ≡ bit_at y j) → x ≡ y
 same_flags x y c p a z n o rest = same_from_bits x y (λ j.
-    elim (cases_eq j CF) [ | inl e ↦ rw e c | inr c' ↦
-    elim (cases_eq j PF) [ | inl e ↦ rw e p | inr p' ↦
-    elim (cases_eq j AF) [ | inl e ↦ rw e a | inr a' ↦
-    elim (cases_eq j ZF) [ | inl e ↦ rw e z | inr z' ↦
-    elim (cases_eq j SF) [ | inl e ↦ rw e n | inr n' ↦
-    elim (cases_eq j OF) [ | inl e ↦ rw e o | inr o' ↦ rest j c' p' a' z' n' o' ] ] ] ] ] ])
+    elim (cases_eq j CF) [
+      | inl e ↦ rw e c
+      | inr c' ↦
+          elim (cases_eq j PF) [
+            | inl e ↦ rw e p
+            | inr p' ↦
+                elim (cases_eq j AF) [
+                  | inl e ↦ rw e a
+                  | inr a' ↦
+                      elim (cases_eq j ZF) [
+                        | inl e ↦ rw e z
+                        | inr z' ↦
+                            elim (cases_eq j SF) [
+                              | inl e ↦ rw e n
+                              | inr n' ↦
+                                  elim (cases_eq j OF) [ inl e ↦ rw e o | inr o' ↦ rest j c' p' a' z' n' o' ]
+                            ]
+                      ]
+                ]
+          ]
+    ])
 
 -- the flags that are packed last are those that stand
 pub packed_again : (e F G : ℕ) → with_status (with_status e F) G ≡ with_status e G
@@ -87,7 +103,7 @@ unpacked s e F G left = same_flags _ _
     (adjust_bit e (with_status 0 G) ∙ adjust_bit 0 G) (zero_bit e (with_status 0 G) ∙ zero_bit 0 G)
     (sign_bit e (with_status 0 G) ∙ sign_bit 0 G) (overflow_bit e (with_status 0 G) ∙ overflow_bit 0 G)
     (λ j c p a z n o. other_bit e (with_status 0 G) j c p a z n o ∙ sym (ap (λ m. bit_at m j) left
-        ∙ bit_at-flags_after s (with_status e F) G j c p a z n o ∙ other_bit e F j c p a z n o))
+    ∙ bit_at-flags_after s (with_status e F) G j c p a z n o ∙ other_bit e F j c p a z n o))
 
 -- ---- the flags of packed flags
 

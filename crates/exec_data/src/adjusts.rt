@@ -43,7 +43,7 @@ pub(crate) fn adjust(regs: &mut Regs, flags: &mut Flags, insn: &Insn)
     let ax = reg(regs, ACCUMULATOR, Size::B2);
     let answer = adjusted(insn.op, ax, flags.pack(regs.eflags));
     set_reg(regs, ACCUMULATOR, Size::B2, answer.value);
-    keep(regs, flags, answer.flags);
+    keep(flags, answer.flags);
 }
 
 /// AAM.
@@ -61,7 +61,7 @@ pub(crate) fn digits(regs: &mut Regs, flags: &mut Flags, insn: &Insn) -> Result<
     match aam(ax, base, flags.pack(regs.eflags)) {
         Ok(answer) => {
             set_reg(regs, ACCUMULATOR, Size::B2, answer.value);
-            keep(regs, flags, answer.flags);
+            keep(flags, answer.flags);
             Ok(())
         }
         Err(DivideError) => Err(divide_error()),
@@ -80,5 +80,5 @@ pub(crate) fn from_digits(regs: &mut Regs, flags: &mut Flags, insn: &Insn)
     let ax = reg(regs, ACCUMULATOR, Size::B2);
     let answer = aad(ax, base, flags.pack(regs.eflags));
     set_reg(regs, ACCUMULATOR, Size::B2, answer.value);
-    keep(regs, flags, answer.flags);
+    keep(flags, answer.flags);
 }

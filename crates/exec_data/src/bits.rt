@@ -34,17 +34,13 @@ pub(crate) fn bit_test(regs: &Regs, flags: &mut Flags, insn: &Insn)
     let place = bit_place(insn.size, narrow_value(regs, &insn.b, insn.size));
     let a = value(regs, &insn.a, insn.size);
     let eflags = flags.pack(regs.eflags);
-    keep(regs, flags, bit_ops::bit_test(BitOp::Bt, a, place, insn.size, eflags).flags);
+    let answer = bit_ops::bit_test(BitOp::Bt, a, place, insn.size, eflags);
+    keep(flags, answer.flags);
 }
 
 /// BTS, BTR and BTC.
 #[tactic(auto, unfolding(mdl_step::specs::DataEffects::bit_change_plan))]
-pub(crate) fn bit_change(
-    regs: &mut Regs,
-    flags: &mut Flags,
-    insn: &Insn,
-    op: BitOp,
-)
+pub(crate) fn bit_change(regs: &mut Regs, flags: &mut Flags, insn: &Insn, op: BitOp)
     requires size { insn.now.size ≢ B1 }
     requires a { IsPlainOf insn.now.size insn.now.a }
     requires b { IsPlainWithin insn.now.size insn.now.b }
@@ -55,18 +51,13 @@ pub(crate) fn bit_change(
     let place = bit_place(insn.size, narrow_value(regs, &insn.b, insn.size));
     let a = value(regs, &insn.a, insn.size);
     let answer = bit_ops::bit_test(op, a, place, insn.size, flags.pack(regs.eflags));
-    keep(regs, flags, answer.flags);
+    keep(flags, answer.flags);
     set(regs, &insn.a, insn.size, answer.value);
 }
 
 /// BSF, upwards, and BSR.
 #[tactic(auto, unfolding(mdl_step::specs::DataEffects::scan_plan))]
-pub(crate) fn scan(
-    regs: &mut Regs,
-    flags: &mut Flags,
-    insn: &Insn,
-    up: bool,
-)
+pub(crate) fn scan(regs: &mut Regs, flags: &mut Flags, insn: &Insn, up: bool)
     requires size { insn.now.size ≢ B1 }
     requires a { IsPlainOf insn.now.size insn.now.a }
     requires b { IsPlainOf insn.now.size insn.now.b }
@@ -77,6 +68,6 @@ pub(crate) fn scan(
     let source = value(regs, &insn.b, insn.size);
     let dest = value(regs, &insn.a, insn.size);
     let answer = bit_ops::scan(up, source, dest, insn.size, flags.pack(regs.eflags));
-    keep(regs, flags, answer.flags);
+    keep(flags, answer.flags);
     set(regs, &insn.a, insn.size, answer.value);
 }

@@ -1,6 +1,6 @@
 //! Conditions by number, and SETcc.
 
-ghost use Rattle.std.specs.Prelude.{◌≡◌, ◌<◌, ℕ};
+ghost use Rattle.std.specs.Prelude.{◌≡◌, ℕ};
 ghost use Rattle.mdl_state.specs.declared.Size.TheVariants.{B1};
 ghost use Rattle.lazy_flags.specs.Keeper.{with_status};
 ghost use Rattle.mdl_step.specs.Operands.{follow};
@@ -52,12 +52,7 @@ pub(crate) fn condition(number: u8, flags: &Flags) -> bool
 
 /// SETcc: whether the condition holds, as a byte.
 #[tactic(auto, unfolding(mdl_step::specs::DataEffects::set_plan))]
-pub(crate) fn set_byte(
-    regs: &mut Regs,
-    flags: &Flags,
-    insn: &Insn,
-    number: u8,
-)
+pub(crate) fn set_byte(regs: &mut Regs, flags: &Flags, insn: &Insn, number: u8)
     requires { IsPlainOf B1 insn.now.a }
     ensures plan { follow (whole regs.new flags.now)
         ≡ set_plan number insn.now (whole regs.old flags.now) }

@@ -20,3 +20,6 @@ mod shifts;
 
 pub use plain::is_plain_data;
 pub use run::run_plain;
+
+#[cfg(test)]
+mod examples;

@@ -1,7 +1,6 @@
 //! Moves and extensions.
 
-ghost use Rattle.std.specs.Prelude.{◌≡◌, ◌≢◌, ◌<◌, ◌≤◌};
-ghost use Rattle.mdl_state.specs.declared.Size.TheVariants.{B1};
+ghost use Rattle.std.specs.Prelude.{◌≡◌, ◌<◌, ◌≤◌, ℕ};
 ghost use Rattle.mdl_state.specs.Bytes.{bound_of, bytes_of};
 ghost use Rattle.mdl_step.specs.Operands.{follow};
 ghost use Rattle.mdl_step.specs.DataEffects.{sign_extended, move_plan, sign_extend_plan, exchange_plan};
@@ -11,18 +10,17 @@ ghost use Rattle.exec_data.specs.Whole.{whole, IsPlainOf, IsPlainWithin, KeepsOt
 use crate::registers::{
     ACCUMULATOR, DATA, is_nothing, narrow_value, own_size, reg, set, set_reg, value,
 };
-use lazy_flags::Flags;
 use mdl_insn::Insn;
 use mdl_num::{bound, half, signed, word};
 use mdl_state::{Regs, Size};
 
 /// MOV.
 #[tactic(auto, unfolding(mdl_step::specs::DataEffects::move_plan))]
-pub(crate) fn copy(regs: &mut Regs, flags: &Flags, insn: &Insn)
+pub(crate) fn copy(regs: &mut Regs, insn: &Insn)
     requires a { IsPlainOf insn.now.size insn.now.a }
     requires b { IsPlainOf insn.now.size insn.now.b }
-    ensures plan { follow (whole regs.new flags.now)
-        ≡ move_plan insn.now (whole regs.old flags.now) }
+    ensures plan { (flags : ℕ) → follow (whole regs.new flags)
+        ≡ move_plan insn.now (whole regs.old flags) }
     ensures kept { KeepsOther regs.old regs.new }
 {
     let value = value(regs, &insn.b, insn.size);
@@ -31,11 +29,11 @@ pub(crate) fn copy(regs: &mut Regs, flags: &Flags, insn: &Insn)
 
 /// MOVZX.
 #[tactic(auto, unfolding(mdl_step::specs::DataEffects::move_plan))]
-pub(crate) fn zero_extend(regs: &mut Regs, flags: &Flags, insn: &Insn)
+pub(crate) fn zero_extend(regs: &mut Regs, insn: &Insn)
     requires a { IsPlainOf insn.now.size insn.now.a }
     requires b { IsPlainWithin insn.now.size insn.now.b }
-    ensures plan { follow (whole regs.new flags.now)
-        ≡ move_plan insn.now (whole regs.old flags.now) }
+    ensures plan { (flags : ℕ) → follow (whole regs.new flags)
+        ≡ move_plan insn.now (whole regs.old flags) }
     ensures kept { KeepsOther regs.old regs.new }
 {
     let value = narrow_value(regs, &insn.b, insn.size);
@@ -54,25 +52,26 @@ fn sign_extended(from: Size, to: Size, value: u32) -> u32
 
 /// MOVSX.
 #[tactic(auto, unfolding(mdl_step::specs::DataEffects::sign_extend_plan))]
-pub(crate) fn sign_extend(regs: &mut Regs, flags: &Flags, insn: &Insn)
+pub(crate) fn sign_extend(regs: &mut Regs, insn: &Insn)
     requires a { IsPlainOf insn.now.size insn.now.a }
     requires b { IsPlainWithin insn.now.size insn.now.b }
-    ensures plan { follow (whole regs.new flags.now)
-        ≡ sign_extend_plan insn.now (whole regs.old flags.now) }
+    ensures plan { (flags : ℕ) → follow (whole regs.new flags)
+        ≡ sign_extend_plan insn.now (whole regs.old flags) }
     ensures kept { KeepsOther regs.old regs.new }
 {
     let from = own_size(&insn.b, insn.size);
-    let value = narrow_value(regs, &insn.b, insn.size);
-    set(regs, &insn.a, insn.size, sign_extended(from, insn.size, value));
+    let number = narrow_value(regs, &insn.b, insn.size);
+    let value = sign_extended(from, insn.size, number);
+    set(regs, &insn.a, insn.size, value);
 }
 
 /// XCHG, and what does nothing.
 #[tactic(auto, unfolding(mdl_step::specs::DataEffects::exchange_plan))]
-pub(crate) fn exchange(regs: &mut Regs, flags: &Flags, insn: &Insn)
+pub(crate) fn exchange(regs: &mut Regs, insn: &Insn)
     requires a { IsPlainOf insn.now.size insn.now.a }
     requires b { IsPlainOf insn.now.size insn.now.b }
-    ensures plan { follow (whole regs.new flags.now)
-        ≡ exchange_plan insn.now (whole regs.old flags.now) }
+    ensures plan { (flags : ℕ) → follow (whole regs.new flags)
+        ≡ exchange_plan insn.now (whole regs.old flags) }
     ensures kept { KeepsOther regs.old regs.new }
 {
     if is_nothing(&insn.a) {
@@ -97,9 +96,9 @@ fn half_size(size: Size) -> Size
 
 /// CBW and CWDE.
 #[tactic(auto, unfolding(mdl_step::specs::DataEffects::widen_plan))]
-pub(crate) fn widen(regs: &mut Regs, flags: &Flags, insn: &Insn)
-    ensures plan { follow (whole regs.new flags.now)
-        ≡ widen_plan insn.now (whole regs.old flags.now) }
+pub(crate) fn widen(regs: &mut Regs, insn: &Insn)
+    ensures plan { (flags : ℕ) → follow (whole regs.new flags)
+        ≡ widen_plan insn.now (whole regs.old flags) }
     ensures kept { KeepsOther regs.old regs.new }
 {
     let from = half_size(insn.size);
@@ -109,9 +108,9 @@ pub(crate) fn widen(regs: &mut Regs, flags: &Flags, insn: &Insn)
 
 /// CWD and CDQ.
 #[tactic(auto, unfolding(mdl_step::specs::DataEffects::sign_plan))]
-pub(crate) fn sign(regs: &mut Regs, flags: &Flags, insn: &Insn)
-    ensures plan { follow (whole regs.new flags.now)
-        ≡ sign_plan insn.now (whole regs.old flags.now) }
+pub(crate) fn sign(regs: &mut Regs, insn: &Insn)
+    ensures plan { (flags : ℕ) → follow (whole regs.new flags)
+        ≡ sign_plan insn.now (whole regs.old flags) }
     ensures kept { KeepsOther regs.old regs.new }
 {
     let value = if reg(regs, ACCUMULATOR, insn.size) >= half(insn.size) {

@@ -1,6 +1,6 @@
 //! Products and quotients.
 
-ghost use Rattle.std.specs.Prelude.{◌≡◌, ◌<◌, true, false, IfOk, IfErr, OnErr};
+ghost use Rattle.std.specs.Prelude.{◌≡◌, ◌<◌, ℕ, true, false, IfOk, IfErr, OnErr};
 ghost use Rattle.mdl_state.specs.Bytes.{bound_of};
 ghost use Rattle.mdl_step.specs.Operands.{is_nothing};
 ghost use Rattle.mdl_step.specs.Operands.{follow};
@@ -39,7 +39,7 @@ pub(crate) fn multiply(regs: &mut Regs, flags: &mut Flags, insn: &Insn)
     let low = reg(regs, ACCUMULATOR, insn.size);
     let product = mul(low, a, insn.size, flags.pack(regs.eflags));
     set_pair(regs, insn.size, product.low, product.high);
-    keep(regs, flags, product.flags);
+    keep(flags, product.flags);
 }
 
 /// IMUL with one operand.
@@ -55,33 +55,43 @@ fn multiply_accumulator(regs: &mut Regs, flags: &mut Flags, insn: &Insn)
     let low = reg(regs, ACCUMULATOR, insn.size);
     let product = imul(low, a, insn.size, flags.pack(regs.eflags));
     set_pair(regs, insn.size, product.low, product.high);
-    keep(regs, flags, product.flags);
+    keep(flags, product.flags);
 }
 
-/// IMUL with two operands, the first of which is a factor, or with three.
+/// IMUL with two operands, the first of which is a factor.
 #[tactic(auto, unfolding(mdl_step::specs::DataEffects::signed_multiply_plan))]
-fn multiply_operands(regs: &mut Regs, flags: &mut Flags, insn: &Insn)
+fn multiply_operand(regs: &mut Regs, flags: &mut Flags, insn: &Insn)
     requires a { IsPlainOf insn.now.size insn.now.a }
     requires b { IsPlainOf insn.now.size insn.now.b }
-    requires c { IsPlainOf insn.now.size insn.now.c }
     requires some { is_nothing insn.now.b ≡ false }
+    requires c { is_nothing insn.now.c ≡ true }
     ensures plan { follow (whole regs.new flags.new)
         ≡ signed_multiply_plan insn.now (whole regs.old flags.old) (whole regs.new flags.new).eflags }
     ensures kept { KeepsOther regs.old regs.new }
 {
     let b = value(regs, &insn.b, insn.size);
-    let factor = if is_nothing(&insn.c) {
-        value(regs, &insn.a, insn.size)
-    } else {
-        value(regs, &insn.c, insn.size)
-    };
-    let eflags = flags.pack(regs.eflags);
-    let product = if is_nothing(&insn.c) {
-        imul(factor, b, insn.size, eflags)
-    } else {
-        imul(b, factor, insn.size, eflags)
-    };
-    keep(regs, flags, product.flags);
+    let a = value(regs, &insn.a, insn.size);
+    let product = imul(a, b, insn.size, flags.pack(regs.eflags));
+    keep(flags, product.flags);
+    set(regs, &insn.a, insn.size, product.low);
+}
+
+/// IMUL with three operands.
+#[tactic(auto, unfolding(mdl_step::specs::DataEffects::signed_multiply_plan))]
+fn multiply_others(regs: &mut Regs, flags: &mut Flags, insn: &Insn)
+    requires a { IsPlainOf insn.now.size insn.now.a }
+    requires b { IsPlainOf insn.now.size insn.now.b }
+    requires c { IsPlainOf insn.now.size insn.now.c }
+    requires some_b { is_nothing insn.now.b ≡ false }
+    requires some_c { is_nothing insn.now.c ≡ false }
+    ensures plan { follow (whole regs.new flags.new)
+        ≡ signed_multiply_plan insn.now (whole regs.old flags.old) (whole regs.new flags.new).eflags }
+    ensures kept { KeepsOther regs.old regs.new }
+{
+    let b = value(regs, &insn.b, insn.size);
+    let c = value(regs, &insn.c, insn.size);
+    let product = imul(b, c, insn.size, flags.pack(regs.eflags));
+    keep(flags, product.flags);
     set(regs, &insn.a, insn.size, product.low);
 }
 
@@ -95,9 +105,11 @@ pub(crate) fn signed_multiply(regs: &mut Regs, flags: &mut Flags, insn: &Insn)
     ensures kept { KeepsOther regs.old regs.new }
 {
     if is_nothing(&insn.b) {
-        multiply_accumulator(regs, flags, insn)
+        multiply_accumulator(regs, flags, insn);
+    } else if is_nothing(&insn.c) {
+        multiply_operand(regs, flags, insn);
     } else {
-        multiply_operands(regs, flags, insn)
+        multiply_others(regs, flags, insn);
     }
 }
 
@@ -105,13 +117,12 @@ pub(crate) fn signed_multiply(regs: &mut Regs, flags: &mut Flags, insn: &Insn)
 #[tactic(auto, using(crate::proofs::Quotients::quotients))]
 fn set_quotient(
     regs: &mut Regs,
-    flags: &Flags,
     size: Size,
     divided: Result<(u32, u32), DivideError>,
 ) -> Result<(), Fault>
     requires { IfOk divided (λ d. (d.0 < bound_of size) × (d.1 < bound_of size)) }
-    ensures plan { done result (whole regs.new flags.now)
-        ≡ quotient_plan (whole regs.old flags.now) size (whole regs.new flags.now).eflags divided }
+    ensures plan { (flags : ℕ) → done result (whole regs.new flags)
+        ≡ quotient_plan (whole regs.old flags) size (whole regs.new flags).eflags divided }
     ensures kept { KeepsOther regs.old regs.new }
     ensures fault { IfErr result (λ fault. fault ≡ divide_error) }
     ensures unchanged { OnErr result (regs.new ≡ regs.old) }
@@ -127,30 +138,30 @@ fn set_quotient(
 
 /// DIV.
 #[tactic(auto, unfolding(mdl_step::specs::DataEffects::divide_plan))]
-pub(crate) fn divide(regs: &mut Regs, flags: &Flags, insn: &Insn) -> Result<(), Fault>
+pub(crate) fn divide(regs: &mut Regs, insn: &Insn) -> Result<(), Fault>
     requires { IsPlainOf insn.now.size insn.now.a }
-    ensures plan { done result (whole regs.new flags.now)
-        ≡ divide_plan insn.now (whole regs.old flags.now) (whole regs.new flags.now).eflags }
+    ensures plan { (flags : ℕ) → done result (whole regs.new flags)
+        ≡ divide_plan insn.now (whole regs.old flags) (whole regs.new flags).eflags }
     ensures kept { KeepsOther regs.old regs.new }
     ensures fault { IfErr result (λ fault. fault ≡ divide_error) }
     ensures unchanged { OnErr result (regs.new ≡ regs.old) }
 {
     let by = value(regs, &insn.a, insn.size);
     let (low, high) = pair(regs, insn.size);
-    set_quotient(regs, flags, insn.size, div(high, low, by, insn.size))
+    set_quotient(regs, insn.size, div(high, low, by, insn.size))
 }
 
 /// IDIV.
 #[tactic(auto, unfolding(mdl_step::specs::DataEffects::signed_divide_plan))]
-pub(crate) fn signed_divide(regs: &mut Regs, flags: &Flags, insn: &Insn) -> Result<(), Fault>
+pub(crate) fn signed_divide(regs: &mut Regs, insn: &Insn) -> Result<(), Fault>
     requires { IsPlainOf insn.now.size insn.now.a }
-    ensures plan { done result (whole regs.new flags.now)
-        ≡ signed_divide_plan insn.now (whole regs.old flags.now) (whole regs.new flags.now).eflags }
+    ensures plan { (flags : ℕ) → done result (whole regs.new flags)
+        ≡ signed_divide_plan insn.now (whole regs.old flags) (whole regs.new flags).eflags }
     ensures kept { KeepsOther regs.old regs.new }
     ensures fault { IfErr result (λ fault. fault ≡ divide_error) }
     ensures unchanged { OnErr result (regs.new ≡ regs.old) }
 {
     let by = value(regs, &insn.a, insn.size);
     let (low, high) = pair(regs, insn.size);
-    set_quotient(regs, flags, insn.size, idiv(high, low, by, insn.size))
+    set_quotient(regs, insn.size, idiv(high, low, by, insn.size))
 }

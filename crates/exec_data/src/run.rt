@@ -9,6 +9,7 @@ ghost use Rattle.mdl_step.specs.Operands.{follow};
 ghost use Rattle.mdl_step.specs.DataEffects.{data_effect, divide_error};
 ghost use Rattle.mdl_step.specs.Effects.{effect, is_plain_data};
 ghost use Rattle.mdl_step.specs.Forms.{IsFormed};
+ghost use Rattle.mdl_step.specs.Step.{is_plain_mode};
 ghost use Rattle.exec_data.specs.Whole.{whole, done, after, can_fail, KeepsOther};
 
 use crate::adjusts::{adjust, digits, from_digits};
@@ -24,6 +25,7 @@ use mdl_num::BitOp;
 use mdl_state::{Fault, Regs};
 
 /// The instruction by its mnemonic, where that has no fault.
+#[rattlefmt::skip]
 #[tactic(auto, unfolding(mdl_step::specs::DataEffects::data_effect))]
 fn run_sure(regs: &mut Regs, flags: &mut Flags, insn: &Insn)
     requires formed { IsFormed insn.now }
@@ -34,39 +36,20 @@ fn run_sure(regs: &mut Regs, flags: &mut Flags, insn: &Insn)
     ensures kept { KeepsOther regs.old regs.new }
 {
     match insn.op {
-        Op::Mov => copy(regs, flags, insn),
-        Op::Movzx => zero_extend(regs, flags, insn),
-        Op::Movsx => sign_extend(regs, flags, insn),
-        Op::Xchg => exchange(regs, flags, insn),
-        Op::Cbw => widen(regs, flags, insn),
-        Op::Cwd => sign(regs, flags, insn),
-        Op::Add => combine(regs, flags, insn),
-        Op::Or => combine(regs, flags, insn),
-        Op::Adc => combine(regs, flags, insn),
-        Op::Sbb => combine(regs, flags, insn),
-        Op::And => combine(regs, flags, insn),
-        Op::Sub => combine(regs, flags, insn),
-        Op::Xor => combine(regs, flags, insn),
-        Op::Cmp => compare(regs, flags, insn),
-        Op::Test => compare(regs, flags, insn),
-        Op::Inc => change(regs, flags, insn),
-        Op::Dec => change(regs, flags, insn),
-        Op::Neg => change(regs, flags, insn),
-        Op::Not => change(regs, flags, insn),
+        Op::Mov => copy(regs, insn),
+        Op::Movzx => zero_extend(regs, insn),
+        Op::Movsx => sign_extend(regs, insn),
+        Op::Xchg => exchange(regs, insn),
+        Op::Cbw => widen(regs, insn),
+        Op::Cwd => sign(regs, insn),
+        Op::Add | Op::Or | Op::Adc | Op::Sbb | Op::And | Op::Sub | Op::Xor => combine(regs, flags, insn),
+        Op::Cmp | Op::Test => compare(regs, flags, insn),
+        Op::Inc | Op::Dec | Op::Neg | Op::Not => change(regs, flags, insn),
         Op::Mul => multiply(regs, flags, insn),
         Op::Imul => signed_multiply(regs, flags, insn),
-        Op::Daa => adjust(regs, flags, insn),
-        Op::Das => adjust(regs, flags, insn),
-        Op::Aaa => adjust(regs, flags, insn),
-        Op::Aas => adjust(regs, flags, insn),
+        Op::Daa | Op::Das | Op::Aaa | Op::Aas => adjust(regs, flags, insn),
         Op::Aad => from_digits(regs, flags, insn),
-        Op::Rol => shift(regs, flags, insn),
-        Op::Ror => shift(regs, flags, insn),
-        Op::Rcl => shift(regs, flags, insn),
-        Op::Rcr => shift(regs, flags, insn),
-        Op::Shl => shift(regs, flags, insn),
-        Op::Shr => shift(regs, flags, insn),
-        Op::Sar => shift(regs, flags, insn),
+        Op::Rol | Op::Ror | Op::Rcl | Op::Rcr | Op::Shl | Op::Shr | Op::Sar => shift(regs, flags, insn),
         Op::Shld => double_shift(regs, flags, insn, true),
         Op::Shrd => double_shift(regs, flags, insn, false),
         Op::Bt => bit_test(regs, flags, insn),
@@ -82,7 +65,7 @@ fn run_sure(regs: &mut Regs, flags: &mut Flags, insn: &Insn)
 
 /// The instruction by its mnemonic, where its operands have the form of it.
 #[tactic(auto, unfolding(mdl_step::specs::DataEffects::data_effect))]
-fn run_formed(regs: &mut Regs, flags: &mut Flags, insn: &Insn) -> Result<(), Fault>
+pub(crate) fn run_formed(regs: &mut Regs, flags: &mut Flags, insn: &Insn) -> Result<(), Fault>
     requires formed { IsFormed insn.now }
     requires plain { is_plain_data insn.now ≡ true }
     ensures plan { done result (whole regs.new flags.new)
@@ -92,8 +75,8 @@ fn run_formed(regs: &mut Regs, flags: &mut Flags, insn: &Insn) -> Result<(), Fau
     ensures unchanged { OnErr result ((regs.new ≡ regs.old) × (flags.new ≡ flags.old)) }
 {
     match insn.op {
-        Op::Div => divide(regs, flags, insn),
-        Op::Idiv => signed_divide(regs, flags, insn),
+        Op::Div => divide(regs, insn),
+        Op::Idiv => signed_divide(regs, insn),
         Op::Aam => digits(regs, flags, insn),
         _ => {
             run_sure(regs, flags, insn);
@@ -106,7 +89,7 @@ fn run_formed(regs: &mut Regs, flags: &mut Flags, insn: &Insn) -> Result<(), Fau
 ///
 /// The status flags of EFLAGS are those of `flags`; of `regs` the call changes general registers
 /// alone.
-#[tactic(auto, using(crate::proofs::Attempts::attempts))]
+#[tactic(auto, using(crate::proofs::Attempts::attempts, crate::proofs::Modes::mode_kept))]
 pub fn run_plain(regs: &mut Regs, flags: &mut Flags, insn: &Insn) -> Result<(), Fault>
     requires spelt { (bytes : List ℕ) × (big : Bool) × Spelt bytes big insn.now }
     requires plain { IsTrue (is_plain_data insn.now) }
@@ -115,6 +98,7 @@ pub fn run_plain(regs: &mut Regs, flags: &mut Flags, insn: &Insn) -> Result<(), 
     ensures fault { IfErr result (λ fault. fault ≡ divide_error) }
     ensures unchanged { OnErr result ((regs.new ≡ regs.old) × (flags.new ≡ flags.old)) }
     ensures kept { KeepsOther regs.old regs.new }
+    ensures mode { is_plain_mode (whole regs.new flags.new) ≡ is_plain_mode (whole regs.old flags.old) }
 {
     run_formed(regs, flags, insn)
 }

@@ -47,18 +47,13 @@ pub(crate) fn shift(regs: &mut Regs, flags: &mut Flags, insn: &Insn)
     let count = value(regs, &insn.b, Size::B1) as u8;
     let a = value(regs, &insn.a, insn.size);
     let answer = shifted(insn.op, insn.size, a, count, flags.pack(regs.eflags));
-    keep(regs, flags, answer.flags);
+    keep(flags, answer.flags);
     set(regs, &insn.a, insn.size, answer.value);
 }
 
 /// SHLD, with `left`, and SHRD.
 #[tactic(auto, unfolding(mdl_step::specs::DataEffects::double_shift_plan))]
-pub(crate) fn double_shift(
-    regs: &mut Regs,
-    flags: &mut Flags,
-    insn: &Insn,
-    left: bool,
-)
+pub(crate) fn double_shift(regs: &mut Regs, flags: &mut Flags, insn: &Insn, left: bool)
     requires size { insn.now.size ≢ B1 }
     requires a { IsPlainOf insn.now.size insn.now.a }
     requires b { IsPlainOf insn.now.size insn.now.b }
@@ -72,6 +67,6 @@ pub(crate) fn double_shift(
     let a = value(regs, &insn.a, insn.size);
     let eflags = flags.pack(regs.eflags);
     let answer = bit_ops::double_shift(left, a, source, count, insn.size, eflags);
-    keep(regs, flags, answer.flags);
+    keep(flags, answer.flags);
     set(regs, &insn.a, insn.size, answer.value);
 }

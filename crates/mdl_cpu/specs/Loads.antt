@@ -19,9 +19,9 @@ real_load r seg sel = Done (with_selector r seg sel)
 unfoldable pub load_plan : Regs → Seg → ℕ → Plan Regs
 load_plan r seg sel = real_load r seg sel
 
--- ---- what a call that loads answers
+-- ---- what a call answers that sets registers
 
--- the registers where it passes, or its fault
-abbrev pub loaded : Result (Unit {0}) Fault → Regs → Outcome Regs
-loaded (Ok _) r = Passed r
-loaded (Err fault) r = Failed fault
+-- the registers that it leaves where it passes, or its fault
+abbrev pub answered : Result (Unit {0}) Fault → Regs → Outcome Regs
+answered (Ok _) r = Passed r
+answered (Err fault) r = Failed fault

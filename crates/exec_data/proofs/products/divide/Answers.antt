@@ -1,4 +1,3 @@
-use Rattle.std.proofs.Common.{rules}
 use Rattle.exec_data.proofs.Quotients.{div_fits}
 use Rattle.exec_data.proofs.products.divide.Goals as goal
 

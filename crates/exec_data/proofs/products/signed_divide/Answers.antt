@@ -1,4 +1,3 @@
-use Rattle.std.proofs.Common.{rules}
 use Rattle.exec_data.proofs.Quotients.{idiv_fits}
 use Rattle.exec_data.proofs.products.signed_divide.Goals as goal
 

@@ -1,4 +1,3 @@
-use Rattle.std.proofs.Common.{rules}
 use Rattle.mdl_step.proofs.FormLaws.{spelt_formed}
 use Rattle.exec_data.proofs.run.run_plain.Goals as goal
 
