@@ -81,8 +81,8 @@ impl HeldWrite {
     }
 
     /// Where it goes.
-    fn place(self) -> Place
-        ensures { result ≡ place_of self }
+    fn place(&self) -> Place
+        ensures { result ≡ place_of self.now }
     {
         Place {
             first: self.first,
@@ -93,9 +93,9 @@ impl HeldWrite {
 
     /// What is seen at an address that leaves the processor, where this was seen before the write.
     #[tactic(auto, unfolding(mdl_state::specs::Accesses::held_bytes))]
-    pub(crate) fn newest(self, phys: &PhysMap, out: u32, here: u8) -> u8
-        requires { IsHeldWrite self }
-        ensures { result ≡ newest phys.now.a20 (write_bytes self) out here }
+    pub(crate) fn newest(&self, phys: &PhysMap, out: u32, here: u8) -> u8
+        requires { IsHeldWrite self.now }
+        ensures { result ≡ newest phys.now.a20 (write_bytes self.now) out here }
     {
         let place = self.place();
         let first = newer(phys, byte_place(place, 0), self.value % 0x100, out, here);
@@ -130,9 +130,9 @@ impl HeldWrite {
 
     /// The write placed.
     #[tactic(auto, using(crate::proofs::Holding::whole_placed))]
-    pub(crate) fn put(self, phys: &mut PhysMap)
-        requires { IsHeldWrite self }
-        ensures placed { phys.new ≡ all_placed phys.old (write_bytes self) }
+    pub(crate) fn put(&self, phys: &mut PhysMap)
+        requires { IsHeldWrite self.now }
+        ensures placed { phys.new ≡ all_placed phys.old (write_bytes self.now) }
         ensures keeps { KeepsPhysical phys.old phys.new }
     {
         if u32::from(self.cut) == bytes_of(self.size) {
@@ -144,9 +144,9 @@ impl HeldWrite {
     /// The write placed byte by byte.
     #[inline(never)]
     #[tactic(auto, unfolding(mdl_state::specs::Accesses::held_bytes))]
-    fn put_bytes(self, phys: &mut PhysMap)
-        requires { IsHeldWrite self }
-        ensures placed { phys.new ≡ all_placed phys.old (write_bytes self) }
+    fn put_bytes(&self, phys: &mut PhysMap)
+        requires { IsHeldWrite self.now }
+        ensures placed { phys.new ≡ all_placed phys.old (write_bytes self.now) }
         ensures keeps { KeepsPhysical phys.old phys.new }
     {
         let place = self.place();
