@@ -78,9 +78,10 @@ stands memory r i count t =
 
 front : (memory : Physical) (r : Regs) (i : Insn) (count : ℕ) → StandsAt memory r i count → (count ≤ length (code_at memory r)) × Spelt (take count (code_at memory r)) false i
 front memory r i count s =
-    let room : count ≤ 0x10000 - r.eip = omega (arith, s.inside) in
-    (subst (λ (n : ℕ). count ≤ n) (sym (code_length memory r 0 (0x10000 - r.eip))) room,
-     subst (λ (xs : List ℕ). Spelt xs false i) (sym (front_code memory r 0 count (0x10000 - r.eip) room)) s.spelt)
+    let room : count ≤ 0x10000 - r.eip = omega (arith, s.inside) in (
+      subst (λ (n : ℕ). count ≤ n) (sym (code_length memory r 0 (0x10000 - r.eip))) room,
+      subst (λ (xs : List ℕ). Spelt xs false i) (sym (front_code memory r 0 count (0x10000 - r.eip) room)) s.spelt,
+    )
 
 -- one instruction stands there
 pub one_stands : (memory : Physical) (r : Regs) (i j : Insn) (n m : ℕ) → StandsAt memory r i n → StandsAt memory r j m → (j ≡ i) × (m ≡ n)
