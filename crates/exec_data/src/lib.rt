@@ -11,6 +11,7 @@ mod arithmetic;
 mod bits;
 mod conditions;
 mod kept;
+mod memory;
 mod moves;
 mod plain;
 mod products;

@@ -110,7 +110,7 @@ pub(crate) fn own_size(operand: &Operand, size: Size) -> Size
     ensures within { bytes_of result ≤ bytes_of size }
 {
     match operand {
-        Operand::Gpr(_, own) | Operand::Imm(_, own) => *own,
+        Operand::Gpr(_, own) | Operand::Imm(_, own) | Operand::At(_, own) => *own,
         _ => Size::B1,
     }
 }
