@@ -4,4 +4,4 @@ pub mod Extensions
 pub mod Quotients
 pub mod Attempts
 pub mod Modes
-pub mod Openings
+pub mod Places

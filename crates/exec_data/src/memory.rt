@@ -1,16 +1,16 @@
 //! Operands in memory.
 
-ghost use Rattle.std.specs.Prelude.{◌≡◌, ◌<◌, ◌+◌, ℕ, true, false, IfOk, OnErr};
+ghost use Rattle.std.specs.Prelude.{◌≡◌, ◌<◌, ◌+◌, ℕ, true, IfOk, IfErr};
 ghost use Rattle.mdl_state.specs.Bytes.{bound_of};
-ghost use Rattle.mdl_state.specs.Serving.{by_pick, outcome};
+ghost use Rattle.mdl_state.specs.Serving.{by_pick, outcome, Failed};
 ghost use Rattle.mdl_state.specs.Accesses.{Keeps, IsPlace, HasRoom};
 ghost use Rattle.mdl_state.specs.Attempt.{tried};
 ghost use Rattle.mdl_cpu.specs.Addresses.{offset_of, IsAddress, HasAddress};
 ghost use Rattle.mdl_cpu.specs.Access.{legal};
-ghost use Rattle.mdl_step.specs.Operands.{size_of, load_from, store_to, memory_read, memory_write};
+ghost use Rattle.mdl_step.specs.Operands.{size_of, Made, load_from, store_to, change_in, memory_read, memory_write, memory_change};
 ghost use Rattle.mdl_step.specs.Forms.{IsOf};
 ghost use Rattle.exec_data.specs.Whole.{whole};
-ghost use Rattle.exec_data.specs.Memory.{open_in, open_plan};
+ghost use Rattle.exec_data.specs.Memory.{changed, is_memory};
 
 use mdl_insn::{Mem, Operand};
 use mdl_state::{Access, Fault, Place, Regs, Seg, Size};
@@ -127,8 +127,10 @@ pub(crate) fn open_at<L: Linear>(
     offset: u32,
     size: Size,
 ) -> Result<Place, Fault>
-    ensures run { (flags : ℕ) → (outcome result, L.seen lin.new)
-        ≡ tried (by_pick L.pick) 0 (open_in (whole regs.now flags) seg offset size) (L.seen lin.old) }
+    ensures passed { IfOk result (λ place. (flags : ℕ) (make : ℕ → Made) →
+        tried (by_pick L.pick) 0 (change_in (whole regs.now flags) seg offset size make) (L.seen lin.old) ≡ changed (L.seen lin.new) place size make) }
+    ensures refused { IfErr result (λ fault. (flags : ℕ) (make : ℕ → Made) →
+        tried (by_pick L.pick) 0 (change_in (whole regs.now flags) seg offset size make) (L.seen lin.old) ≡ (Failed fault, L.seen lin.new)) }
     ensures form { IfOk result (λ place. IsPlace place size) }
     ensures keeps { Keeps (L.seen lin.old) (L.seen lin.new) }
     ensures held { (L.seen lin.new).held ≡ (L.seen lin.old).held }
@@ -145,6 +147,7 @@ pub(crate) fn read<L: Linear>(regs: &Regs, lin: &mut L, operand: &Operand) -> Re
     ensures run { (flags : ℕ) → (outcome result, L.seen lin.new)
         ≡ tried (by_pick L.pick) 0 (memory_read (whole regs.now flags) operand.now) (L.seen lin.old) }
     ensures bound { IfOk result (λ value. value < bound_of (size_of operand.now)) }
+    ensures memory { IfOk result (λ value. is_memory operand.now ≡ true) }
     ensures keeps { Keeps (L.seen lin.old) (L.seen lin.new) }
     ensures held { (L.seen lin.new).held ≡ (L.seen lin.old).held }
 {
@@ -178,7 +181,7 @@ pub(crate) fn write<L: Linear>(
 }
 
 /// The place of a memory operand that is read and then written.
-#[tactic(auto, unfolding(crate::specs::Memory::open_plan))]
+#[tactic(auto, unfolding(mdl_step::specs::Operands::memory_change))]
 pub(crate) fn open<L: Linear>(
     regs: &Regs,
     lin: &mut L,
@@ -187,8 +190,10 @@ pub(crate) fn open<L: Linear>(
 ) -> Result<Place, Fault>
     requires form { IsOf size operand.now }
     requires address { HasAddress operand.now }
-    ensures run { (flags : ℕ) → (outcome result, L.seen lin.new)
-        ≡ tried (by_pick L.pick) 0 (open_plan (whole regs.now flags) operand.now) (L.seen lin.old) }
+    ensures passed { IfOk result (λ place. (flags : ℕ) (make : ℕ → Made) →
+        tried (by_pick L.pick) 0 (memory_change (whole regs.now flags) operand.now make) (L.seen lin.old) ≡ changed (L.seen lin.new) place size make) }
+    ensures refused { IfErr result (λ fault. (flags : ℕ) (make : ℕ → Made) →
+        tried (by_pick L.pick) 0 (memory_change (whole regs.now flags) operand.now make) (L.seen lin.old) ≡ (Failed fault, L.seen lin.new)) }
     ensures form { IfOk result (λ place. IsPlace place size) }
     ensures keeps { Keeps (L.seen lin.old) (L.seen lin.new) }
     ensures held { (L.seen lin.new).held ≡ (L.seen lin.old).held }
