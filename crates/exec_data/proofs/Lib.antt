@@ -4,4 +4,6 @@ pub mod Extensions
 pub mod Quotients
 pub mod Attempts
 pub mod Modes
-pub mod Places
+pub mod PlaceLaws
+pub mod Loads
+pub mod Readings

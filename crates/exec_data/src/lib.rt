@@ -6,10 +6,14 @@
 //! first, then `DataEffects.antt` of `mdl_step`.
 #![tactic(auto)]
 
+mod addresses;
 mod adjusts;
 mod arithmetic;
+mod bit_strings;
 mod bits;
+mod bounds;
 mod conditions;
+mod far_pointers;
 mod kept;
 mod memory;
 mod moves;
@@ -17,6 +21,7 @@ mod plain;
 mod products;
 mod registers;
 mod run;
+mod segments;
 mod shifts;
 
 pub use plain::is_plain_data;

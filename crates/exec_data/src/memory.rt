@@ -1,6 +1,6 @@
 //! Operands in memory.
 
-ghost use Rattle.std.specs.Prelude.{◌≡◌, ◌<◌, ◌+◌, ℕ, true, IfOk, IfErr};
+ghost use Rattle.std.specs.Prelude.{◌≡◌, ◌<◌, ◌+◌, ℕ, true, false, IfOk, IfErr};
 ghost use Rattle.mdl_state.specs.Bytes.{bound_of};
 ghost use Rattle.mdl_state.specs.Serving.{by_pick, outcome, Failed};
 ghost use Rattle.mdl_state.specs.Accesses.{Keeps, IsPlace, HasRoom};
@@ -153,6 +153,28 @@ pub(crate) fn read<L: Linear>(regs: &Regs, lin: &mut L, operand: &Operand) -> Re
 {
     match operand {
         Operand::At(mem, size) => load(regs, lin, mem.seg, offset(regs, mem), *size),
+        _ => Err(no_such()),
+    }
+}
+
+/// The same where the operand has this size.
+#[tactic(auto, unfolding(mdl_step::specs::Operands::memory_read))]
+pub(crate) fn read_sized<L: Linear>(
+    regs: &Regs,
+    lin: &mut L,
+    operand: &Operand,
+    size: Size,
+) -> Result<u32, Fault>
+    requires form { IsOf size operand.now }
+    requires address { HasAddress operand.now }
+    ensures run { (flags : ℕ) → (outcome result, L.seen lin.new)
+        ≡ tried (by_pick L.pick) 0 (memory_read (whole regs.now flags) operand.now) (L.seen lin.old) }
+    ensures bound { IfOk result (λ value. value < bound_of size) }
+    ensures keeps { Keeps (L.seen lin.old) (L.seen lin.new) }
+    ensures held { (L.seen lin.new).held ≡ (L.seen lin.old).held }
+{
+    match operand {
+        Operand::At(mem, _) => load(regs, lin, mem.seg, offset(regs, mem), size),
         _ => Err(no_such()),
     }
 }

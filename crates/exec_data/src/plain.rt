@@ -25,7 +25,7 @@ fn is_data(op: Op) -> bool
 }
 
 /// Whether the operand is a general register, a number, or nothing.
-fn is_plain(operand: &Operand) -> bool
+pub(crate) fn is_plain(operand: &Operand) -> bool
     ensures { result ≡ is_plain operand.now }
 {
     match operand {

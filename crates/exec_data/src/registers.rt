@@ -15,6 +15,8 @@ use mdl_state::{Regs, Size};
 pub(crate) const ACCUMULATOR: u8 = 0;
 /// The data register's number: that of DX and EDX.
 pub(crate) const DATA: u8 = 2;
+/// The stack pointer's number: that of SP and ESP.
+pub(crate) const STACK: u8 = 4;
 /// The number of AH among the registers of one byte.
 pub(crate) const AH: u8 = 4;
 
