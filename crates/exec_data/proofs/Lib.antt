@@ -7,3 +7,4 @@ pub mod Modes
 pub mod PlaceLaws
 pub mod Loads
 pub mod Readings
+pub mod MoveLaws

@@ -20,6 +20,7 @@ use Rattle.mdl_step.specs.Effects.{is_plain_data}
 use Rattle.mdl_step.specs.Forms.{IsOf, IsWithin, IsFormedAs}
 use Rattle.exec_data.specs.Whole.{after, done}
 use Rattle.exec_data.specs.Memory.{is_memory}
+use Rattle.exec_data.proofs.PlaceLaws.{not_nothing}
 use Rattle.exec_data.specs.Reads.{reads_first, reads_second, with_first, with_second}
 
 -- ---- plans
@@ -28,12 +29,11 @@ use Rattle.exec_data.specs.Reads.{reads_first, reads_second, with_first, with_se
 abbrev SecondRead : Op → Insn → Regs → ℕ → Type 0
 SecondRead op insn r free = by_mnemonic op insn r free ≡ then_plan (memory_read r insn.b) (λ value. by_mnemonic op (with_second insn value) r free)
 
-factor_read : (b : Operand) (insn : Insn) (r : Regs) (free : ℕ) → is_plain b ≡ false → SecondRead ops.Imul (record insn { b = b }) r free
+factor_read : (insn : Insn) (r : Regs) (free : ℕ) (none : Bool) → is_nothing insn.c ≡ none → is_nothing insn.b ≡ false → is_plain insn.b ≡ false
+    → SecondRead ops.Imul insn r free
 unfolding signed_multiply_plan
-factor_read Nothing insn r free e = absurd cc
-factor_read (Gpr n size) insn r free e = absurd cc
-factor_read (Imm value size) insn r free e = absurd cc
-factor_read _ insn r free e = refl
+factor_read insn r free true c b e = rw (c, b, e) refl
+factor_read insn r free false c b e = rw (c, b, e) refl
 
 pub second_read : (op : Op) (insn : Insn) (r : Regs) (free : ℕ) → reads_second op ≡ true → is_plain insn.b ≡ false → SecondRead op insn r free
 unfolding move_plan sign_extend_plan binary_plan compare_plan scan_plan
@@ -41,7 +41,7 @@ second_read ops.Movzx insn r free o e = rw e refl
 second_read ops.Movsx insn r free o e = rw e refl
 second_read ops.Bsf insn r free o e = rw e refl
 second_read ops.Bsr insn r free o e = rw e refl
-second_read ops.Imul insn r free o e = factor_read insn.b insn r free e
+second_read ops.Imul insn r free o e = factor_read insn r free (is_nothing insn.c) refl (not_nothing insn.b e) e
 second_read ops.Add insn r free o e = rw e refl
 second_read ops.Or insn r free o e = rw e refl
 second_read ops.Adc insn r free o e = rw e refl

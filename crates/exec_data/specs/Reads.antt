@@ -41,3 +41,8 @@ with_first insn value = record insn { a = Imm value (size_of insn.a) }
 -- and as its second
 abbrev pub with_second : Insn → ℕ → Insn
 with_second insn value = record insn { b = Imm value (size_of insn.b) }
+
+-- MOV
+abbrev pub is_move : Op → Bool
+is_move ops.Mov = true
+is_move _ = false

@@ -106,6 +106,16 @@ pub(crate) fn set(regs: &mut Regs, operand: &Operand, size: Size, value: u32)
 }
 
 /// The size that an operand has of its own.
+pub(crate) fn size_of(operand: &Operand) -> Size
+    ensures { result ≡ size_of operand.now }
+{
+    match operand {
+        Operand::Gpr(_, own) | Operand::Imm(_, own) | Operand::At(_, own) => *own,
+        _ => Size::B1,
+    }
+}
+
+/// The same, which is within the size of the instruction.
 pub(crate) fn own_size(operand: &Operand, size: Size) -> Size
     requires { IsWithin size operand.now }
     ensures value { result ≡ size_of operand.now }
