@@ -10,7 +10,7 @@ use Rattle.mdl_state.specs.Attempt.{tried}
 use Rattle.mdl_insn.specs.declared.instruction.Insn.{Insn}
 use Rattle.mdl_insn.specs.declared.mnemonics.Op.{Op}
 use Rattle.mdl_insn.specs.declared.mnemonics.Op.TheVariants as ops
-use Rattle.mdl_step.specs.DataEffects.{is_data, data_effect}
+use Rattle.mdl_step.specs.DataEffects.{is_data, runs_data, data_effect}
 use Rattle.mdl_step.specs.Effects.{by_op, effect, is_plain_data}
 use Rattle.exec_data.specs.Whole.{after, done}
 
@@ -39,3 +39,16 @@ attempted insn result old new free plain plan serve given back m =
     ∙ ap (λ p. tried serve given p m) (plan ∙ sym (by_op_data insn.op insn old back free (first_of _ _ _ _ plain)))
 
 pub ruleset attempts = (attempted)
+
+-- nor is what runs as one
+runs_by_op : (op : Op) (insn : Insn) (r : Regs) (back free : ℕ) → insn.op ≡ op → runs_data insn ≡ true → by_op op insn r back free ≡ data_effect insn r free
+runs_by_op ops.Jmp insn r back free o e = absurd (false≢true (rw o at e))
+runs_by_op ops.Jmpf insn r back free o e = absurd (false≢true (rw o at e))
+runs_by_op ops.Hlt insn r back free o e = absurd (false≢true (rw o at e))
+runs_by_op _ insn r back free o e = refl
+
+pub effect_data : (insn : Insn) (r : Regs) (back free : ℕ) → runs_data insn ≡ true → effect insn r back free ≡ data_effect insn r free
+unfolding effect
+effect_data insn r back free e = runs_by_op insn.op insn r back free refl e
+
+pub ruleset effects = (effect_data)

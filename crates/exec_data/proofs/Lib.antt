@@ -4,3 +4,7 @@ pub mod Extensions
 pub mod Quotients
 pub mod Attempts
 pub mod Modes
+pub mod PlaceLaws
+pub mod Loads
+pub mod Readings
+pub mod MoveLaws

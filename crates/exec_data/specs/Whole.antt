@@ -3,6 +3,7 @@ use Rattle.std.specs.Prelude.{◌≡◌, ℕ, Result, Ok, Err, Bool, true, false
 use Rattle.mdl_state.specs.declared.Regs.{Regs}
 use Rattle.mdl_state.specs.declared.Size.{Size}
 use Rattle.mdl_state.specs.declared.Fault.{Fault}
+use Rattle.mdl_state.specs.declared.Next.{Next}
 use Rattle.mdl_state.specs.declared.Next.TheVariants.{Follow}
 use Rattle.mdl_state.specs.Attempt.{Plan, Fail}
 use Rattle.mdl_state.specs.Serving.{Outcome, Passed, Failed}
@@ -21,6 +22,11 @@ whole r flags = record r { eflags = with_status r.eflags flags }
 abbrev pub after : Result (Unit {0}) Fault → Regs → Outcome After
 after (Ok _) r = Passed (record { regs = r; next = Follow })
 after (Err fault) r = Failed fault
+
+-- the same of an instruction that says what follows
+abbrev pub ran : Result Next Fault → Regs → Outcome After
+ran (Ok next) r = Passed (record { regs = r; next = next })
+ran (Err fault) r = Failed fault
 
 -- the same as a plan
 abbrev pub done : Result (Unit {0}) Fault → Regs → Plan After

@@ -1,19 +1,25 @@
 //! Sums, differences and logic.
 
-ghost use Rattle.std.specs.Prelude.{◌≡◌, ◌<◌, ℕ};
+ghost use Rattle.std.specs.Prelude.{◌≡◌, ◌<◌, ℕ, OnErr};
 ghost use Rattle.mdl_state.specs.Bytes.{bound_of};
+ghost use Rattle.mdl_state.specs.Serving.{by_pick};
+ghost use Rattle.mdl_state.specs.Accesses.{Keeps, HasRoom};
+ghost use Rattle.mdl_state.specs.Attempt.{tried};
 ghost use Rattle.mdl_num.specs.Flags.{flags_after};
 ghost use Rattle.mdl_num.specs.Sums.{sum_value, difference_value, logic_value, logic_status};
 ghost use Rattle.lazy_flags.specs.Keeper.{with_status};
 ghost use Rattle.mdl_step.specs.Operands.{follow};
 ghost use Rattle.mdl_step.specs.DataEffects.{binary, unary, binary_plan, compare_plan, unary_plan};
-ghost use Rattle.exec_data.specs.Whole.{whole, IsPlainOf, KeepsOther};
+ghost use Rattle.exec_data.specs.Whole.{whole, after, IsPlainOf, KeepsOther};
+ghost use Rattle.exec_data.specs.Memory.{IsMemoryOf};
 
+use crate::memory::open;
 use crate::registers::{set, value};
 use lazy_flags::{FlagOp, Flags};
 use mdl_insn::{Insn, Op};
 use mdl_num::{CF, LogicOp, bound, low};
-use mdl_state::{Regs, Size};
+use mdl_state::{Fault, Regs, Size};
+use mem_iface::Linear;
 
 /// The value of a sum.
 #[tactic(auto, unfolding(mdl_num::specs::Sums::sum_value))]
@@ -163,4 +169,50 @@ pub(crate) fn change(regs: &mut Regs, flags: &mut Flags, insn: &Insn)
     let a = value(regs, &insn.a, insn.size);
     let value = unary(insn.op, insn.size, a, flags);
     set(regs, &insn.a, insn.size, value);
+}
+
+/// ADD, OR, ADC, SBB, AND, SUB and XOR in memory.
+#[tactic(auto, unfolding(mdl_step::specs::DataEffects::binary_plan))]
+pub(crate) fn combine_memory<L: Linear>(
+    regs: &Regs,
+    flags: &mut Flags,
+    lin: &mut L,
+    insn: &Insn,
+) -> Result<(), Fault>
+    requires a { IsMemoryOf insn.now.size insn.now.a }
+    requires b { IsPlainOf insn.now.size insn.now.b }
+    requires room { HasRoom (L.seen lin.old) 4 }
+    ensures run { (after result (whole regs.now flags.new), L.seen lin.new)
+        ≡ tried (by_pick L.pick) 0 (binary_plan insn.now (whole regs.now flags.old) (whole regs.now flags.new).eflags) (L.seen lin.old) }
+    ensures unchanged { OnErr result (flags.new ≡ flags.old) }
+    ensures keeps { Keeps (L.seen lin.old) (L.seen lin.new) }
+{
+    let b = value(regs, &insn.b, insn.size);
+    let place = open(regs, lin, &insn.a, insn.size)?;
+    let a = lin.get(place, insn.size);
+    let value = binary(insn.op, insn.size, a, b, flags);
+    lin.hold(place, insn.size, value);
+    Ok(())
+}
+
+/// INC, DEC, NEG and NOT in memory.
+#[tactic(auto, unfolding(mdl_step::specs::DataEffects::unary_plan))]
+pub(crate) fn change_memory<L: Linear>(
+    regs: &Regs,
+    flags: &mut Flags,
+    lin: &mut L,
+    insn: &Insn,
+) -> Result<(), Fault>
+    requires a { IsMemoryOf insn.now.size insn.now.a }
+    requires room { HasRoom (L.seen lin.old) 4 }
+    ensures run { (after result (whole regs.now flags.new), L.seen lin.new)
+        ≡ tried (by_pick L.pick) 0 (unary_plan insn.now (whole regs.now flags.old) (whole regs.now flags.new).eflags) (L.seen lin.old) }
+    ensures unchanged { OnErr result (flags.new ≡ flags.old) }
+    ensures keeps { Keeps (L.seen lin.old) (L.seen lin.new) }
+{
+    let place = open(regs, lin, &insn.a, insn.size)?;
+    let a = lin.get(place, insn.size);
+    let value = unary(insn.op, insn.size, a, flags);
+    lin.hold(place, insn.size, value);
+    Ok(())
 }

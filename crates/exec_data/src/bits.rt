@@ -15,7 +15,7 @@ use mdl_num::{BitOp, bits};
 use mdl_state::{Regs, Size};
 
 /// The place of a bit in the operand.
-fn bit_place(size: Size, index: u32) -> u8
+pub(crate) fn bit_place(size: Size, index: u32) -> u8
     ensures value { result ≡ bit_place size index }
     ensures bound { result < bits_of size }
 {

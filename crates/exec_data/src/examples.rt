@@ -5,7 +5,7 @@ ghost use Rattle.std.specs.Prelude.{◌≡◌, true};
 ghost use Rattle.mdl_step.specs.Forms.{IsFormed};
 ghost use Rattle.mdl_step.specs.Effects.{is_plain_data};
 
-use crate::run::run_formed;
+use crate::plain_run::run_formed;
 use lazy_flags::Flags;
 use mdl_insn::Operand::{Gpr, Imm, Nothing};
 use mdl_insn::{Insn, Op, Rep};

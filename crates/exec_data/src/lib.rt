@@ -6,20 +6,30 @@
 //! first, then `DataEffects.antt` of `mdl_step`.
 #![tactic(auto)]
 
+mod addresses;
 mod adjusts;
 mod arithmetic;
+mod bit_strings;
 mod bits;
+mod bounds;
 mod conditions;
+mod far_pointers;
+mod instructions;
 mod kept;
+mod memory;
+mod memory_run;
 mod moves;
 mod plain;
 mod products;
+mod reads;
 mod registers;
-mod run;
+mod plain_run;
+mod segments;
 mod shifts;
 
+pub use instructions::run;
 pub use plain::is_plain_data;
-pub use run::run_plain;
+pub use plain_run::run_plain;
 
 #[cfg(test)]
 mod examples;

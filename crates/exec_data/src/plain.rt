@@ -4,11 +4,12 @@ ghost use Rattle.std.specs.Prelude.{◌≡◌};
 ghost use Rattle.mdl_step.specs.Operands.{is_plain};
 ghost use Rattle.mdl_step.specs.DataEffects.{is_data};
 ghost use Rattle.mdl_step.specs.Effects.{is_plain_data};
+ghost use Rattle.exec_data.specs.Reads.{is_move};
 
 use mdl_insn::{Insn, Op, Operand};
 
 /// Whether the mnemonic is that of a data instruction.
-fn is_data(op: Op) -> bool
+pub(crate) fn is_data(op: Op) -> bool
     ensures { result ≡ is_data op }
 {
     match op {
@@ -24,8 +25,18 @@ fn is_data(op: Op) -> bool
     }
 }
 
+/// Whether the mnemonic is MOV.
+pub(crate) fn is_move(op: Op) -> bool
+    ensures { result ≡ is_move op }
+{
+    match op {
+        Op::Mov => true,
+        _ => false,
+    }
+}
+
 /// Whether the operand is a general register, a number, or nothing.
-fn is_plain(operand: &Operand) -> bool
+pub(crate) fn is_plain(operand: &Operand) -> bool
     ensures { result ≡ is_plain operand.now }
 {
     match operand {

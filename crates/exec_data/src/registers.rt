@@ -15,6 +15,8 @@ use mdl_state::{Regs, Size};
 pub(crate) const ACCUMULATOR: u8 = 0;
 /// The data register's number: that of DX and EDX.
 pub(crate) const DATA: u8 = 2;
+/// The stack pointer's number: that of SP and ESP.
+pub(crate) const STACK: u8 = 4;
 /// The number of AH among the registers of one byte.
 pub(crate) const AH: u8 = 4;
 
@@ -104,13 +106,23 @@ pub(crate) fn set(regs: &mut Regs, operand: &Operand, size: Size, value: u32)
 }
 
 /// The size that an operand has of its own.
+pub(crate) fn size_of(operand: &Operand) -> Size
+    ensures { result ≡ size_of operand.now }
+{
+    match operand {
+        Operand::Gpr(_, own) | Operand::Imm(_, own) | Operand::At(_, own) => *own,
+        _ => Size::B1,
+    }
+}
+
+/// The same, which is within the size of the instruction.
 pub(crate) fn own_size(operand: &Operand, size: Size) -> Size
     requires { IsWithin size operand.now }
     ensures value { result ≡ size_of operand.now }
     ensures within { bytes_of result ≤ bytes_of size }
 {
     match operand {
-        Operand::Gpr(_, own) | Operand::Imm(_, own) => *own,
+        Operand::Gpr(_, own) | Operand::Imm(_, own) | Operand::At(_, own) => *own,
         _ => Size::B1,
     }
 }

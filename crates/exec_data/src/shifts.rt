@@ -1,19 +1,25 @@
 //! Shifts and rotates.
 
-ghost use Rattle.std.specs.Prelude.{◌≡◌, ◌≢◌, ◌<◌};
+ghost use Rattle.std.specs.Prelude.{◌≡◌, ◌≢◌, ◌<◌, OnErr};
 ghost use Rattle.mdl_state.specs.declared.Size.TheVariants.{B1};
 ghost use Rattle.mdl_state.specs.Bytes.{bound_of};
+ghost use Rattle.mdl_state.specs.Serving.{by_pick};
+ghost use Rattle.mdl_state.specs.Accesses.{Keeps, HasRoom};
+ghost use Rattle.mdl_state.specs.Attempt.{tried};
 ghost use Rattle.mdl_num.specs.Flags.{flags_after};
 ghost use Rattle.mdl_step.specs.Operands.{follow};
 ghost use Rattle.mdl_step.specs.DataEffects.{shifted, shift_plan, double_shift_plan};
-ghost use Rattle.exec_data.specs.Whole.{whole, IsPlainOf, KeepsOther};
+ghost use Rattle.exec_data.specs.Whole.{whole, after, IsPlainOf, KeepsOther};
+ghost use Rattle.exec_data.specs.Memory.{IsMemoryOf};
 
 use crate::kept::keep;
+use crate::memory::open;
 use crate::registers::{set, value};
 use lazy_flags::Flags;
 use mdl_insn::{Insn, Op};
 use mdl_num::{Alu, RotateOp, ShiftOp};
-use mdl_state::{Regs, Size};
+use mdl_state::{Fault, Regs, Size};
+use mem_iface::Linear;
 
 /// A shift or a rotate by its mnemonic.
 #[tactic(auto, using(crate::proofs::Statuses::statuses))]
@@ -69,4 +75,59 @@ pub(crate) fn double_shift(regs: &mut Regs, flags: &mut Flags, insn: &Insn, left
     let answer = bit_ops::double_shift(left, a, source, count, insn.size, eflags);
     keep(flags, answer.flags);
     set(regs, &insn.a, insn.size, answer.value);
+}
+
+/// ROL to SAR in memory.
+#[tactic(auto, unfolding(mdl_step::specs::DataEffects::shift_plan))]
+pub(crate) fn shift_memory<L: Linear>(
+    regs: &Regs,
+    flags: &mut Flags,
+    lin: &mut L,
+    insn: &Insn,
+) -> Result<(), Fault>
+    requires a { IsMemoryOf insn.now.size insn.now.a }
+    requires b { IsPlainOf B1 insn.now.b }
+    requires room { HasRoom (L.seen lin.old) 4 }
+    ensures run { (after result (whole regs.now flags.new), L.seen lin.new)
+        ≡ tried (by_pick L.pick) 0 (shift_plan insn.now (whole regs.now flags.old) (whole regs.now flags.new).eflags) (L.seen lin.old) }
+    ensures unchanged { OnErr result (flags.new ≡ flags.old) }
+    ensures keeps { Keeps (L.seen lin.old) (L.seen lin.new) }
+{
+    let count = value(regs, &insn.b, Size::B1) as u8;
+    let place = open(regs, lin, &insn.a, insn.size)?;
+    let a = lin.get(place, insn.size);
+    let answer = shifted(insn.op, insn.size, a, count, flags.pack(regs.eflags));
+    lin.hold(place, insn.size, answer.value);
+    keep(flags, answer.flags);
+    Ok(())
+}
+
+/// SHLD, with `left`, and SHRD in memory.
+#[tactic(auto, unfolding(mdl_step::specs::DataEffects::double_shift_plan))]
+pub(crate) fn double_shift_memory<L: Linear>(
+    regs: &Regs,
+    flags: &mut Flags,
+    lin: &mut L,
+    insn: &Insn,
+    left: bool,
+) -> Result<(), Fault>
+    requires size { insn.now.size ≢ B1 }
+    requires a { IsMemoryOf insn.now.size insn.now.a }
+    requires b { IsPlainOf insn.now.size insn.now.b }
+    requires c { IsPlainOf B1 insn.now.c }
+    requires room { HasRoom (L.seen lin.old) 4 }
+    ensures run { (after result (whole regs.now flags.new), L.seen lin.new)
+        ≡ tried (by_pick L.pick) 0 (double_shift_plan left insn.now (whole regs.now flags.old) (whole regs.now flags.new).eflags) (L.seen lin.old) }
+    ensures unchanged { OnErr result (flags.new ≡ flags.old) }
+    ensures keeps { Keeps (L.seen lin.old) (L.seen lin.new) }
+{
+    let count = value(regs, &insn.c, Size::B1) as u8;
+    let source = value(regs, &insn.b, insn.size);
+    let place = open(regs, lin, &insn.a, insn.size)?;
+    let a = lin.get(place, insn.size);
+    let eflags = flags.pack(regs.eflags);
+    let answer = bit_ops::double_shift(left, a, source, count, insn.size, eflags);
+    lin.hold(place, insn.size, answer.value);
+    keep(flags, answer.flags);
+    Ok(())
 }
