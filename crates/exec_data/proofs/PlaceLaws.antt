@@ -1,5 +1,5 @@
 -- Which operands of a data instruction may be memory, as the opcode rows give them.
-use Rattle.std.proofs.Common.{◌≡◌, ◌≢◌, ℕ, ◌==◌, ◌&&◌, Bool, true, false, cond, List, [], refl, sym, ap, subst, ◌∙◌}
+use Rattle.std.proofs.Common.{◌≡◌, ◌≢◌, ℕ, ◌==◌, ◌&&◌, Bool, true, false, cond, List, refl, sym, subst, ◌∙◌}
 use Rattle.std.specs.Prelude.{not, ◌||◌}
 use Rattle.std.proofs.lemmas.Bool.{false≢true}
 use Rattle.mdl_state.specs.declared.Size.{Size}
@@ -7,12 +7,12 @@ use Rattle.mdl_state.specs.declared.Size.TheVariants.{B1, B2, B4}
 use Rattle.mdl_state.specs.Bytes.{little}
 use Rattle.mdl_insn.specs.declared.instruction.Insn.{Insn}
 use Rattle.mdl_insn.specs.declared.instruction.Operand.{Operand}
-use Rattle.mdl_insn.specs.declared.instruction.Operand.TheVariants.{Nothing, Gpr, At, Sreg}
+use Rattle.mdl_insn.specs.declared.instruction.Operand.TheVariants.{Nothing, Gpr, At}
 use Rattle.mdl_insn.specs.declared.mnemonics.Op.{Op}
 use Rattle.mdl_insn.specs.declared.mnemonics.Op.TheVariants as ops
 use Rattle.mdl_insn.specs.declared.rows.Setting.{Setting}
 use Rattle.mdl_insn.specs.declared.rows.Width.{Width}
-use Rattle.mdl_insn.specs.declared.rows.Width.TheVariants.{Byte, Full, Four}
+use Rattle.mdl_insn.specs.declared.rows.Width.TheVariants.{Full}
 use Rattle.mdl_insn.specs.declared.rows.Form.{Form}
 use Rattle.mdl_insn.specs.declared.rows.Form.TheVariants.{No, Eb, Ev, Ew, Gb, Gv, Gw, Ib, Iv, Iw, Is, Rb, Rv, Al, Ax, Cl, Dx, Once, S, Sd, Es, Cs, Ss, Ds, Fs, Gs}
 use Rattle.mdl_insn.specs.declared.rows.Row.{Row}
