@@ -179,13 +179,14 @@ row_insn s r p x y z wide e built =
     let wide_row : Bool = not (is_segment_form r.b) || is_full r.width in
     let sides : Bool = placed r.op (is_plain_form r.a) (is_plain_form r.b) (is_no r.b) in
     let parts = both (is_plain_form r.c) (sides && wide_row) (implied (is_data r.op) (is_plain_form r.c && (sides && wide_row)) e built) in
-    let more = both sides wide_row parts.1 in
-    (both_more (is_plain_form r.c) sides (is_plain (operand s p r.c z)) (placed r.op (is_plain (operand s p r.a x)) (is_plain (operand s p r.b y)) (is_nothing (operand s p r.b y)))
-        (plain_operand s p r.c z)
-        (placed_more r.op (is_plain_form r.a) (is_plain_form r.b) (is_no r.b) (is_plain (operand s p r.a x)) (is_plain (operand s p r.b y)) (is_nothing (operand s p r.b y))
-            (plain_operand s p r.a x) (plain_operand s p r.b y) (no_operand s p r.b y))
-        (both_true (is_plain_form r.c) sides parts.0 more.0),
-     λ seg. full_size s r.width wide (implied (is_segment_form r.b) (is_full r.width) more.1 (sym (segment_form s p r.b y) ∙ seg)))
+    let more = both sides wide_row parts.1 in (
+      both_more (is_plain_form r.c) sides (is_plain (operand s p r.c z)) (placed r.op (is_plain (operand s p r.a x)) (is_plain (operand s p r.b y)) (is_nothing (operand s p r.b y)))
+          (plain_operand s p r.c z)
+          (placed_more r.op (is_plain_form r.a) (is_plain_form r.b) (is_no r.b) (is_plain (operand s p r.a x)) (is_plain (operand s p r.b y)) (is_nothing (operand s p r.b y))
+          (plain_operand s p r.a x) (plain_operand s p r.b y) (no_operand s p r.b y))
+          (both_true (is_plain_form r.c) sides parts.0 more.0),
+      λ seg. full_size s r.width wide (implied (is_segment_form r.b) (is_full r.width) more.1 (sym (segment_form s p r.b y) ∙ seg)),
+    )
 
 pub spelt_placed : (bytes : List ℕ) (big : Bool) (insn : Insn) → Spelt bytes big insn → IsPlacedInsn insn
 spelt_placed bytes big insn h =
