@@ -1,17 +1,14 @@
 -- MOV by its operands.
-use Rattle.std.proofs.Common.{◌≡◌, ℕ, ◌&&◌, refl, Bool, true, false, ap}
-use Rattle.mdl_state.specs.declared.Size.{Size}
+use Rattle.std.proofs.Common.{◌≡◌, ℕ, ◌&&◌, refl, Bool, true, false}
 use Rattle.mdl_state.specs.declared.Regs.{Regs}
-use Rattle.mdl_state.specs.Attempt.{Plan}
 use Rattle.mdl_insn.specs.declared.instruction.Insn.{Insn}
-use Rattle.mdl_insn.specs.declared.instruction.Operand.{Operand}
 use Rattle.mdl_insn.specs.declared.mnemonics.Op.{Op}
 use Rattle.mdl_insn.specs.declared.mnemonics.Op.TheVariants as ops
-use Rattle.mdl_step.specs.Operands.{After, is_plain}
+use Rattle.mdl_step.specs.Operands.{is_plain}
 use Rattle.mdl_step.specs.DataEffects.{is_data, by_mnemonic, data_effect, mov_plan}
 use Rattle.mdl_step.specs.Effects.{is_plain_data}
 use Rattle.mdl_step.specs.Forms.{IsMove, IsFormedAs}
-use Rattle.exec_data.specs.Places.{is_placed, placed}
+use Rattle.exec_data.specs.Places.{is_placed}
 use Rattle.exec_data.specs.Reads.{is_move}
 
 pub move_data : (op : Op) → is_move op ≡ true → is_data op ≡ true

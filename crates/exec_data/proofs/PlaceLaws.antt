@@ -1,5 +1,5 @@
 -- Which operands of a data instruction may be memory, as the opcode rows give them.
-use Rattle.std.proofs.Common.{◌≡◌, ◌≢◌, ℕ, ◌==◌, ◌&&◌, Bool, true, false, cond, List, [], refl, sym, ap, subst, ◌∙◌}
+use Rattle.std.proofs.Common.{◌≡◌, ◌≢◌, ℕ, ◌==◌, ◌&&◌, Bool, true, false, cond, List, refl, sym, subst, ◌∙◌}
 use Rattle.std.specs.Prelude.{not, ◌||◌}
 use Rattle.std.proofs.lemmas.Bool.{false≢true}
 use Rattle.mdl_state.specs.declared.Size.{Size}
@@ -7,12 +7,12 @@ use Rattle.mdl_state.specs.declared.Size.TheVariants.{B1, B2, B4}
 use Rattle.mdl_state.specs.Bytes.{little}
 use Rattle.mdl_insn.specs.declared.instruction.Insn.{Insn}
 use Rattle.mdl_insn.specs.declared.instruction.Operand.{Operand}
-use Rattle.mdl_insn.specs.declared.instruction.Operand.TheVariants.{Nothing, Gpr, At, Sreg}
+use Rattle.mdl_insn.specs.declared.instruction.Operand.TheVariants.{Nothing, Gpr, At}
 use Rattle.mdl_insn.specs.declared.mnemonics.Op.{Op}
 use Rattle.mdl_insn.specs.declared.mnemonics.Op.TheVariants as ops
 use Rattle.mdl_insn.specs.declared.rows.Setting.{Setting}
 use Rattle.mdl_insn.specs.declared.rows.Width.{Width}
-use Rattle.mdl_insn.specs.declared.rows.Width.TheVariants.{Byte, Full, Four}
+use Rattle.mdl_insn.specs.declared.rows.Width.TheVariants.{Full}
 use Rattle.mdl_insn.specs.declared.rows.Form.{Form}
 use Rattle.mdl_insn.specs.declared.rows.Form.TheVariants.{No, Eb, Ev, Ew, Gb, Gv, Gw, Ib, Iv, Iw, Is, Rb, Rv, Al, Ax, Cl, Dx, Once, S, Sd, Es, Cs, Ss, Ds, Fs, Gs}
 use Rattle.mdl_insn.specs.declared.rows.Row.{Row}
@@ -179,13 +179,14 @@ row_insn s r p x y z wide e built =
     let wide_row : Bool = not (is_segment_form r.b) || is_full r.width in
     let sides : Bool = placed r.op (is_plain_form r.a) (is_plain_form r.b) (is_no r.b) in
     let parts = both (is_plain_form r.c) (sides && wide_row) (implied (is_data r.op) (is_plain_form r.c && (sides && wide_row)) e built) in
-    let more = both sides wide_row parts.1 in
-    (both_more (is_plain_form r.c) sides (is_plain (operand s p r.c z)) (placed r.op (is_plain (operand s p r.a x)) (is_plain (operand s p r.b y)) (is_nothing (operand s p r.b y)))
-        (plain_operand s p r.c z)
-        (placed_more r.op (is_plain_form r.a) (is_plain_form r.b) (is_no r.b) (is_plain (operand s p r.a x)) (is_plain (operand s p r.b y)) (is_nothing (operand s p r.b y))
-            (plain_operand s p r.a x) (plain_operand s p r.b y) (no_operand s p r.b y))
-        (both_true (is_plain_form r.c) sides parts.0 more.0),
-     λ seg. full_size s r.width wide (implied (is_segment_form r.b) (is_full r.width) more.1 (sym (segment_form s p r.b y) ∙ seg)))
+    let more = both sides wide_row parts.1 in (
+      both_more (is_plain_form r.c) sides (is_plain (operand s p r.c z)) (placed r.op (is_plain (operand s p r.a x)) (is_plain (operand s p r.b y)) (is_nothing (operand s p r.b y)))
+          (plain_operand s p r.c z)
+          (placed_more r.op (is_plain_form r.a) (is_plain_form r.b) (is_no r.b) (is_plain (operand s p r.a x)) (is_plain (operand s p r.b y)) (is_nothing (operand s p r.b y))
+          (plain_operand s p r.a x) (plain_operand s p r.b y) (no_operand s p r.b y))
+          (both_true (is_plain_form r.c) sides parts.0 more.0),
+      λ seg. full_size s r.width wide (implied (is_segment_form r.b) (is_full r.width) more.1 (sym (segment_form s p r.b y) ∙ seg)),
+    )
 
 pub spelt_placed : (bytes : List ℕ) (big : Bool) (insn : Insn) → Spelt bytes big insn → IsPlacedInsn insn
 spelt_placed bytes big insn h =

@@ -1,17 +1,17 @@
 -- An instruction that reads memory does what it does on the number read.
-use Rattle.std.proofs.Common.{◌≡◌, ◌≢◌, ◌<◌, ◌&&◌, ℕ, refl, sym, ◌∙◌, ap, Bool, true, false}
+use Rattle.std.proofs.Common.{◌≡◌, ◌<◌, ◌&&◌, ℕ, refl, sym, ◌∙◌, ap, Bool, true, false}
 use Rattle.std.specs.Prelude.{Result, Ok, Err}
 use Rattle.mdl_state.specs.declared.Size.{Size}
 use Rattle.mdl_state.specs.declared.Regs.{Regs}
 use Rattle.mdl_state.specs.declared.Fault.{Fault}
 use Rattle.mdl_state.specs.Bytes.{bound_of}
 use Rattle.mdl_state.specs.State.{Mem}
-use Rattle.mdl_state.specs.Serving.{Serve, Outcome, Passed, Failed, outcome, on}
+use Rattle.mdl_state.specs.Serving.{Serve, Passed, Failed, on}
 use Rattle.mdl_state.specs.Attempt.{Plan, tried, then_plan}
 use Rattle.mdl_state.specs.AttemptLaws.{tried-then_plan}
 use Rattle.mdl_insn.specs.declared.instruction.Insn.{Insn}
 use Rattle.mdl_insn.specs.declared.instruction.Operand.{Operand}
-use Rattle.mdl_insn.specs.declared.instruction.Operand.TheVariants.{Nothing, Gpr, Sreg, Creg, Dreg, At, Imm, Rel, Far}
+use Rattle.mdl_insn.specs.declared.instruction.Operand.TheVariants.{At, Imm}
 use Rattle.mdl_insn.specs.declared.mnemonics.Op.{Op}
 use Rattle.mdl_insn.specs.declared.mnemonics.Op.TheVariants as ops
 use Rattle.mdl_step.specs.Operands.{After, is_plain, is_nothing, size_of, memory_read}

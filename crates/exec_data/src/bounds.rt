@@ -43,11 +43,7 @@ fn is_between(size: Size, index: u32, lower: u32, upper: u32) -> bool
 
 /// BOUND.
 #[tactic(auto, using(mdl_state::specs::Rules::attempts), unfolding(mdl_step::specs::DataEffects::bound_plan))]
-pub(crate) fn check_bounds<L: Linear>(
-    regs: &Regs,
-    lin: &mut L,
-    insn: &Insn,
-) -> Result<(), Fault>
+pub(crate) fn check_bounds<L: Linear>(regs: &Regs, lin: &mut L, insn: &Insn) -> Result<(), Fault>
     requires a { IsOf insn.now.size insn.now.a }
     requires address { HasAddress insn.now.b }
     ensures run { (flags : ℕ) → (after result (whole regs.now flags), L.seen lin.new)

@@ -86,6 +86,12 @@ pub(crate) fn set_memory<L: Linear>(
     ensures unchanged { OnErr result (regs.new ≡ regs.old) }
     ensures keeps { Keeps (L.seen lin.old) (L.seen lin.new) }
 {
-    put(regs, lin, &insn.a, Size::B1, condition(number, flags) as u32)?;
+    put(
+        regs,
+        lin,
+        &insn.a,
+        Size::B1,
+        condition(number, flags) as u32,
+    )?;
     Ok(())
 }

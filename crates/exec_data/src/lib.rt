@@ -1,9 +1,10 @@
-//! The data instructions on general registers and numbers: moves, extensions, arithmetic, logic,
-//! products, quotients, decimal adjusts, shifts, rotates, bits and conditions.
+//! The data instructions: moves, extensions, arithmetic, logic, products, quotients, decimal adjusts,
+//! shifts, rotates, bits, conditions, far pointers, bounds and segment registers.
 //!
-//! The one contract used above is `run_plain`: it does what the written machine says of the
-//! instruction. The status flags stand apart from EFLAGS, in a keeper. Read `specs/Whole.antt`
-//! first, then `DataEffects.antt` of `mdl_step`.
+//! The one contract used above is `run`: over any memory, in real mode, it does what the written
+//! machine says of the instruction. `run_plain` does the same where each operand is a register or a
+//! number, and reads no memory. The status flags stand apart from EFLAGS, in a keeper. Read
+//! `specs/Whole.antt` first, then `DataEffects.antt` of `mdl_step`.
 #![tactic(auto)]
 
 mod addresses;
@@ -20,10 +21,10 @@ mod memory;
 mod memory_run;
 mod moves;
 mod plain;
+mod plain_run;
 mod products;
 mod reads;
 mod registers;
-mod plain_run;
 mod segments;
 mod shifts;
 
@@ -33,3 +34,5 @@ pub use plain_run::run_plain;
 
 #[cfg(test)]
 mod examples;
+#[cfg(test)]
+mod memory_examples;

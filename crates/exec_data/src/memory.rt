@@ -50,13 +50,7 @@ fn checked(regs: &Regs, seg: Seg, offset: u32, size: Size, write: bool) -> Resul
 
 /// The same so many bytes behind an offset.
 #[tactic(auto, using(crate::proofs::Modes::modes))]
-fn checked_part(
-    regs: &Regs,
-    seg: Seg,
-    offset: u32,
-    behind: u32,
-    size: Size,
-) -> Result<u32, Fault>
+fn checked_part(regs: &Regs, seg: Seg, offset: u32, behind: u32, size: Size) -> Result<u32, Fault>
     ensures { (flags : ℕ) → result ≡ legal (whole regs.now flags) seg (offset + behind) size false }
 {
     check_part(regs, seg, offset, behind, size, false)

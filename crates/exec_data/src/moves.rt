@@ -159,11 +159,7 @@ pub(crate) fn put<L: Linear>(
 
 /// MOV from memory or to it.
 #[tactic(auto, using(mdl_state::specs::Rules::attempts), unfolding(mdl_step::specs::DataEffects::move_plan))]
-pub(crate) fn move_memory<L: Linear>(
-    regs: &mut Regs,
-    lin: &mut L,
-    insn: &Insn,
-) -> Result<(), Fault>
+pub(crate) fn move_memory<L: Linear>(regs: &mut Regs, lin: &mut L, insn: &Insn) -> Result<(), Fault>
     requires a { IsOf insn.now.size insn.now.a }
     requires b { IsOf insn.now.size insn.now.b }
     requires address_a { HasAddress insn.now.a }

@@ -12,8 +12,8 @@ ghost use Rattle.exec_data.specs.Whole.{whole, after};
 ghost use Rattle.exec_data.specs.Reads.{reads_first, reads_second, with_first, with_second};
 
 use crate::memory::read;
-use crate::registers::size_of;
 use crate::plain_run::run_formed;
+use crate::registers::size_of;
 use lazy_flags::Flags;
 use mdl_insn::{Insn, Operand};
 use mdl_state::{Fault, Regs};

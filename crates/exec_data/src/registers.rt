@@ -121,10 +121,7 @@ pub(crate) fn own_size(operand: &Operand, size: Size) -> Size
     ensures value { result ≡ size_of operand.now }
     ensures within { bytes_of result ≤ bytes_of size }
 {
-    match operand {
-        Operand::Gpr(_, own) | Operand::Imm(_, own) | Operand::At(_, own) => *own,
-        _ => Size::B1,
-    }
+    size_of(operand)
 }
 
 /// Whether there is no operand.

@@ -140,7 +140,12 @@ pub(crate) fn pop_segment<L: Linear>(
     let top = reg(regs, STACK, Size::B2);
     let value = load(regs, lin, Seg::Ss, top, insn.size)?;
     let mut popped = *regs;
-    set_reg(&mut popped, STACK, Size::B2, (top + bytes_of(insn.size)) % 0x1_0000);
+    set_reg(
+        &mut popped,
+        STACK,
+        Size::B2,
+        (top + bytes_of(insn.size)) % 0x1_0000,
+    );
     load_segment(&mut popped, lin, seg, (value % 0x1_0000) as u16)?;
     *regs = popped;
     Ok(after_load(seg))

@@ -8,7 +8,7 @@ returns-in-Ss-clause-run g c = λ F. rw c.in-Ss.is
 
 pub returns-in_default : goal.returns-in_default
 returns-in_default g c = record {
-    run = λ F. load_packed (by_pick g.L.Linear.pick) c.load_data.result c.args.regs.now c.load_data.new.regs F c.args.seg c.args.sel (g.L.Linear.seen c.args.lin.now) (g.L.Linear.seen c.load_data.new.lin) c.load_data.ensures.run;
-    unchanged = c.load_data.ensures.refused;
-    keeps = c.load_data.ensures.keeps;
-  }
+  run = λ F. load_packed (by_pick g.L.Linear.pick) c.load_data.result c.args.regs.now c.load_data.new.regs F c.args.seg c.args.sel (g.L.Linear.seen c.args.lin.now) (g.L.Linear.seen c.load_data.new.lin) c.load_data.ensures.run;
+  unchanged = c.load_data.ensures.refused;
+  keeps = c.load_data.ensures.keeps;
+}
