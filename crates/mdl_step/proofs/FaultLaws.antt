@@ -62,9 +62,11 @@ on_part k l fault (Failed f, m) n h e = e
 on_part k l fault (NoStep, m) n h e = e
 
 after : {A : Type 0} (q : Plan A) (k : ℕ → A → Plan After) → ((x : A) → SameFault (λ free. k free x)) → SameFault (λ free. then_plan q (k free))
-after q k h = record { same = λ serve given free other fault m n e.
-    tried-then_plan serve given q (k other) m ∙ on_part (λ x o. tried serve given (k free x) o) (λ x o. tried serve given (k other x) o) fault (tried serve given q m) n
-    (λ x o. (h x).same serve given free other fault o n) (sym (tried-then_plan serve given q (k free) m) ∙ e) }
+after q k h = record {
+  same = λ serve given free other fault m n e.
+      tried-then_plan serve given q (k other) m ∙ on_part (λ x o. tried serve given (k free x) o) (λ x o. tried serve given (k other x) o) fault (tried serve given q m) n
+      (λ x o. (h x).same serve given free other fault o n) (sym (tried-then_plan serve given q (k free) m) ∙ e);
+}
 
 no_fault : (x : After) (m n : Mem) (fault : Fault) (goal : Type 0) → ◌≡◌ {A = Outcome After × Mem} (Passed x, m) (Failed fault, n) → goal
 no_fault x m n fault goal e = absurd (subst IsPassed e tt)
@@ -72,8 +74,10 @@ no_fault x m n fault goal e = absurd (subst IsPassed e tt)
 -- a change of memory
 changed : (legal : Result ℕ Fault) (size : Size) (access : Access) (make : ℕ → ℕ → Made)
     → SameFault (λ free. checked legal (λ at. Translate at size access (λ place. Get place size (λ value. Hold place size (make free value).value (follow (make free value).regs)))))
-changed (Ok at) size access make = record { same = λ serve given free other fault m n e.
-    on_part _ _ fault (translated serve m at size access) n (λ place o d. no_fault _ _ n fault _ d) e }
+changed (Ok at) size access make = record {
+  same = λ serve given free other fault m n e.
+      on_part _ _ fault (translated serve m at size access) n (λ place o d. no_fault _ _ n fault _ d) e;
+}
 changed (Err f) size access make = fixed (Fail f)
 
 memory_changed : (r : Regs) (operand : Operand) (make : ℕ → ℕ → Made) → SameFault (λ free. memory_change r operand (make free))

@@ -302,9 +302,9 @@ module _ (s : Setting) (p : Place) (x y z : ℕ) (k : Kind) (a b c : Form)
       let first = form_segment s p a x in
       let second = form_segment s p b y in
       move_formed (operand s p a x) (operand s p b y) (size_of s w)
-          (subst (λ (v : Bool). IsMoveAs v (is_segment (operand s p b y)) (operand s p a x) (operand s p b y) (size_of s w)) (sym first)
-          (subst (λ (u : Bool). IsMoveAs (is_segment_form a) u (operand s p a x) (operand s p b y) (size_of s w)) (sym second)
-          (moved_as (is_segment_form a) (is_segment_form b) w e)))
+      (subst (λ (v : Bool). IsMoveAs v (is_segment (operand s p b y)) (operand s p a x) (operand s p b y) (size_of s w)) (sym first)
+      (subst (λ (u : Bool). IsMoveAs (is_segment_form a) u (operand s p a x) (operand s p b y) (size_of s w)) (sym second)
+      (moved_as (is_segment_form a) (is_segment_form b) w e)))
 
   within : (w : Width) → (is_wide w && is_of w a && is_narrow b) ≡ true → (size_of s w ≢ B1) × IsOf (size_of s w) (operand s p a x) × IsWithin (size_of s w) (operand s p b y)
   within Byte e = absurd cc
@@ -362,10 +362,10 @@ data_row s r p x y z =
     let a = operand s p r.a x in
     let b = operand s p r.b y in
     any_of (is_data r.op && not (is_special a) && not (is_special b)) (is_address r.op) (is_segment_pop r.op a)
-        (is_data r.op && not (is_special_form r.a) && not (is_special_form r.b)) (is_pop r.op)
-        (λ e. let parts = three_parts (is_data r.op) (not (is_special a)) (not (is_special b)) e in
-            all_of parts.0 (unspecial_form s p r.a x parts.1) (unspecial_form s p r.b y parts.2))
-        (λ e. pop_of_segment r.op a e)
+    (is_data r.op && not (is_special_form r.a) && not (is_special_form r.b)) (is_pop r.op)
+    (λ e. let parts = three_parts (is_data r.op) (not (is_special a)) (not (is_special b)) e in
+    all_of parts.0 (unspecial_form s p r.a x parts.1) (unspecial_form s p r.b y parts.2))
+    (λ e. pop_of_segment r.op a e)
 
 tested_forms : (r : Row) → is_formed r ≡ true → may_run r ≡ true → are_formed r.op r.width r.a r.b r.c ≡ true
 tested_forms r e may = elim (may_run r) as (λ v. v ≡ true → (not v || are_formed r.op r.width r.a r.b r.c) ≡ true → are_formed r.op r.width r.a r.b r.c ≡ true) [
