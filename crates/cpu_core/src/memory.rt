@@ -4,15 +4,13 @@ ghost use Rattle.std.specs.Prelude.{◌≡◌, ◌≤◌, length, true};
 ghost use Rattle.mdl_state.specs.Memory.{byte_at, is_ram, from_end, IsRamLength, IsRomLength};
 
 use guest_ram::Ram;
-use mdl_state::Size;
+use mdl_state::{SCREEN_BASE, Size};
 use std::marker::Model;
 
 /// Where conventional memory ends.
 const CONVENTIONAL_END: u32 = 0xA0000;
 
-/// Where the screen memory begins and ends.
-const SCREEN_BASE: u32 = 0xB8000;
-
+/// Where the screen memory ends.
 const SCREEN_END: u32 = 0xC0000;
 
 /// Where the first megabyte ends.

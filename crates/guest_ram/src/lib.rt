@@ -68,15 +68,19 @@ impl Ram {
         ensures length { length self.new ≡ length self.old }
     {
         let at = at as usize;
+        let bytes = self.bytes.as_mut_slice();
         let [first, second, third, fourth] = value.to_le_bytes();
-        self.bytes[at] = first;
         match size {
-            Size::B1 => {}
-            Size::B2 => self.bytes[at + 1] = second,
+            Size::B1 => bytes[at] = first,
+            Size::B2 => {
+                bytes[at] = first;
+                bytes[at + 1] = second;
+            }
             Size::B4 => {
-                self.bytes[at + 1] = second;
-                self.bytes[at + 2] = third;
-                self.bytes[at + 3] = fourth;
+                bytes[at] = first;
+                bytes[at + 1] = second;
+                bytes[at + 2] = third;
+                bytes[at + 3] = fourth;
             }
         }
     }

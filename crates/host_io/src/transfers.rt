@@ -1,7 +1,7 @@
 //! An input read whole, and a piece written whole.
 
-ghost use Rattle.std.specs.Prelude.{◌≡◌, ◌≢◌, ◌+◌, ◌≤◌, ◌<◌, length, IfOk, OnOk, OnErr};
-ghost use Rattle.std.specs.Io.KnownBytes.{Appends, Consumes, IsAtEnd};
+ghost use Rattle.std.specs.Prelude.{◌≡◌, ◌+◌, ◌≤◌, ◌<◌, length, IfOk, OnOk, OnErr};
+ghost use Rattle.std.specs.Io.KnownBytes.{Appends, IsAtEnd};
 ghost use Rattle.host_io.specs.declared.host.Slot.TheVariants.{In, Out};
 ghost use Rattle.host_io.specs.Causes.{HasCause, HasReadCause};
 ghost use Rattle.host_io.specs.Slots.{Same, SameBut, TellsAlike};

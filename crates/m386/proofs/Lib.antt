@@ -1,4 +1,4 @@
-pub mod Lengths
-pub mod Matching
+pub mod Options
+pub mod Listings
 pub mod Outcomes
 pub mod Screen

@@ -1,12 +1,13 @@
 //! The machine of a run: built, and run for so many steps.
 
-ghost use Rattle.std.specs.Prelude.{◌≡◌, ◌≤◌, ◌<◌, ◌^◌, ◌*◌, [], length, IfOk};
-ghost use Rattle.std.specs.Bool.{OnTrue, OnFalse};
+ghost use Rattle.std.specs.Prelude.{◌≡◌, ◌≤◌, ◌<◌, ◌^◌, ◌*◌, [], length, IfOk, IfErr, OnOk};
 ghost use Rattle.mdl_state.specs.Boot.{boot, empty_ram};
 ghost use Rattle.mdl_state.specs.Memory.{IsRomLength};
-ghost use Rattle.mdl_state.specs.Run.{ReachesUnbuilt};
-ghost use Rattle.mdl_state.specs.RunLaws.{StepsFor};
+ghost use Rattle.mdl_state.specs.Policy.{meets_any};
+ghost use Rattle.mdl_step.specs.RunLaws.{StepsFor};
+ghost use Rattle.m386.specs.Refusals.{StopsAt};
 
+use crate::refusals::Refusal;
 use cpu_core::First;
 use guest_ram::Ram;
 use std::alloc::{AllocError, Global};
@@ -37,18 +38,18 @@ pub(crate) fn boot(alloc: Global, rom: Vec<u8>) -> Result<First, AllocError>
     Ok(First::new(ram, rom))
 }
 
-/// Makes so many steps, or answers false at the first that is not built.
-pub(crate) fn run(first: &mut First, steps: u64) -> bool
+/// Makes so many steps, or stops at the first that is not built.
+pub(crate) fn run(first: &mut First, steps: u64) -> Result<(), Refusal>
     requires some { steps < 2 ^ 63 }
     requires boot { first.old.core.steps ≡ 0 }
-    ensures made { OnTrue result (StepsFor steps [] first.old first.new) }
-    ensures count { OnTrue result (first.new.core.steps ≡ steps) }
-    ensures unbuilt { OnFalse result (ReachesUnbuilt first.old [] steps) }
+    ensures made { OnOk result (StepsFor meets_any steps [] first.old first.new) }
+    ensures count { OnOk result (first.new.core.steps ≡ steps) }
+    ensures unbuilt { IfErr result (StopsAt first.old steps) }
 {
-    for _step in 0..steps {
+    for step in 0..steps {
         if !first.step() {
-            return false;
+            return Err(Refusal::Unbuilt(step, first.code_byte()));
         }
     }
-    true
+    Ok(())
 }

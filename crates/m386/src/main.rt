@@ -2,13 +2,22 @@
 //! standard input and standard output.
 //!
 //! The one contract used above is the headline on the top call `m386`. Read `specs/Headline.antt`
-//! first, then `specs/Words.antt` and `specs/Answers.antt`.
+//! first, then `specs/Listed.antt`, `specs/Words.antt` and `specs/Answers.antt`.
 #![tactic(auto)]
 
+mod dis_command;
+#[cfg(test)]
+mod dis_tests;
+#[cfg(test)]
+mod fault_tests;
 mod file_host;
+mod listing;
 mod machine;
+mod refusals;
 mod report;
 mod rom;
+mod run_command;
+mod status;
 #[cfg(test)]
 mod tests;
 mod texts;
@@ -16,13 +25,14 @@ mod top;
 mod words;
 
 use file_host::FileHost;
+use status::Status;
 use std::alloc::AllocError;
 use std::process::ExitCode;
 use std::{env, io};
-use top::{Status, m386};
+use top::m386;
 
 /// Does what the words of the command line ask for.
-fn command(rt: HostRuntime) -> io::Result<Status> {
+fn command(rt: HostRuntime, host: &mut FileHost) -> io::Result<Status> {
     let mut texts = Vec::new(rt.alloc());
     for text in env::args(&rt)? {
         texts.push(text).map_err(AllocError::from)?;
@@ -31,16 +41,16 @@ fn command(rt: HostRuntime) -> io::Result<Status> {
     for text in texts.iter().skip(1) {
         words.push(text.as_str()).map_err(AllocError::from)?;
     }
-    let mut host = FileHost::new(rt);
-    Ok(m386(rt.alloc(), words.as_slice(), &mut host))
+    Ok(m386(rt.alloc(), words.as_slice(), host))
 }
 
-/// A word that is no text is a wrong word.
+/// A word that is no text is as wrong as no words are.
 fn main(rt: HostRuntime) -> ExitCode {
-    let status = match command(rt) {
+    let mut host = FileHost::new(rt);
+    let status = match command(rt, &mut host) {
         Ok(status) => status,
         Err(error) if error.kind() == io::ErrorKind::OutOfMemory => Status::Memory,
-        Err(_) => Status::Usage,
+        Err(_) => m386(rt.alloc(), &[], &mut host),
     };
     ExitCode::from(status.number())
 }

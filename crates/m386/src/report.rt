@@ -8,7 +8,7 @@ ghost use Rattle.host_io.specs.declared.host.Slot.TheVariants.{Out};
 ghost use Rattle.host_io.specs.Slots.{Same, SameBut};
 ghost use Rattle.host_io.specs.Causes.{HasCause};
 ghost use Rattle.host_io.specs.Transfers.{AppendsPrefix};
-ghost use Rattle.mdl_state.specs.Report.{activity_text, steps_line, state_line, accumulators_line, pointers_line, control_line, segment_line, segment_lines, table_line, debug_line, last_line, register_lines, printed, screen_line, screen_lines, report_text};
+ghost use Rattle.mdl_step.specs.Report.{activity_text, steps_line, state_line, accumulators_line, pointers_line, control_line, segment_line, segment_lines, table_line, debug_line, last_line, register_lines, printed, screen_line, screen_lines, report_text};
 
 use crate::texts::{ROOM, push_decimal, push_named4, push_named8, push_text};
 use arrayvec::ArrayVec;
@@ -42,7 +42,7 @@ fn activity_text(activity: Activity) -> &'static str
     }
 }
 
-#[tactic(auto, unfolding(mdl_state::specs::Report::steps_line))]
+#[tactic(auto, unfolding(mdl_step::specs::Report::steps_line))]
 fn push_steps(text: &mut ArrayVec<u8, ROOM>, steps: u64)
     requires { array_vec_len text.old + 32 ≤ ROOM }
     ensures text { text.new.items ≡ text.old.items ++ steps_line steps }
@@ -53,7 +53,7 @@ fn push_steps(text: &mut ArrayVec<u8, ROOM>, steps: u64)
     push_text(text, b"\n");
 }
 
-#[tactic(auto, unfolding(mdl_state::specs::Report::state_line))]
+#[tactic(auto, unfolding(mdl_step::specs::Report::state_line))]
 fn push_state(text: &mut ArrayVec<u8, ROOM>, activity: Activity)
     requires { array_vec_len text.old + 32 ≤ ROOM }
     ensures text { text.new.items ≡ text.old.items ++ state_line activity }
@@ -64,7 +64,7 @@ fn push_state(text: &mut ArrayVec<u8, ROOM>, activity: Activity)
     push_text(text, b"\n");
 }
 
-#[tactic(auto, unfolding(mdl_state::specs::Report::accumulators_line))]
+#[tactic(auto, unfolding(mdl_step::specs::Report::accumulators_line))]
 fn push_accumulators(text: &mut ArrayVec<u8, ROOM>, regs: &Regs)
     requires { array_vec_len text.old + 64 ≤ ROOM }
     ensures text { text.new.items ≡ text.old.items ++ accumulators_line regs.now }
@@ -77,7 +77,7 @@ fn push_accumulators(text: &mut ArrayVec<u8, ROOM>, regs: &Regs)
     push_text(text, b"\n");
 }
 
-#[tactic(auto, unfolding(mdl_state::specs::Report::pointers_line))]
+#[tactic(auto, unfolding(mdl_step::specs::Report::pointers_line))]
 fn push_pointers(text: &mut ArrayVec<u8, ROOM>, regs: &Regs)
     requires { array_vec_len text.old + 64 ≤ ROOM }
     ensures text { text.new.items ≡ text.old.items ++ pointers_line regs.now }
@@ -90,7 +90,7 @@ fn push_pointers(text: &mut ArrayVec<u8, ROOM>, regs: &Regs)
     push_text(text, b"\n");
 }
 
-#[tactic(auto, unfolding(mdl_state::specs::Report::control_line))]
+#[tactic(auto, unfolding(mdl_step::specs::Report::control_line))]
 fn push_control(text: &mut ArrayVec<u8, ROOM>, regs: &Regs)
     requires { array_vec_len text.old + 80 ≤ ROOM }
     ensures text { text.new.items ≡ text.old.items ++ control_line regs.now }
@@ -104,7 +104,7 @@ fn push_control(text: &mut ArrayVec<u8, ROOM>, regs: &Regs)
     push_text(text, b"\n");
 }
 
-#[tactic(auto, unfolding(mdl_state::specs::Report::segment_line))]
+#[tactic(auto, unfolding(mdl_step::specs::Report::segment_line))]
 fn push_segment(text: &mut ArrayVec<u8, ROOM>, name: &[u8], hidden: &Hidden)
     requires room { array_vec_len text.old + 56 ≤ ROOM }
     requires name { length name.now ≤ 3 }
@@ -119,7 +119,7 @@ fn push_segment(text: &mut ArrayVec<u8, ROOM>, name: &[u8], hidden: &Hidden)
     push_text(text, b"\n");
 }
 
-#[tactic(auto, unfolding(mdl_state::specs::Report::segment_lines, mdl_state::specs::Registers::seg_of))]
+#[tactic(auto, unfolding(mdl_step::specs::Report::segment_lines, mdl_state::specs::Registers::seg_of))]
 fn push_segments(text: &mut ArrayVec<u8, ROOM>, regs: &Regs)
     requires { array_vec_len text.old + 448 ≤ ROOM }
     ensures text { text.new.items ≡ text.old.items ++ segment_lines regs.now }
@@ -135,7 +135,7 @@ fn push_segments(text: &mut ArrayVec<u8, ROOM>, regs: &Regs)
     push_segment(text, b"tr", &regs.tr);
 }
 
-#[tactic(auto, unfolding(mdl_state::specs::Report::table_line))]
+#[tactic(auto, unfolding(mdl_step::specs::Report::table_line))]
 fn push_table(text: &mut ArrayVec<u8, ROOM>, name: &[u8], base: u32, limit: u16)
     requires room { array_vec_len text.old + 32 ≤ ROOM }
     requires name { length name.now ≤ 3 }
@@ -148,7 +148,7 @@ fn push_table(text: &mut ArrayVec<u8, ROOM>, name: &[u8], base: u32, limit: u16)
     push_text(text, b"\n");
 }
 
-#[tactic(auto, unfolding(mdl_state::specs::Report::debug_line))]
+#[tactic(auto, unfolding(mdl_step::specs::Report::debug_line))]
 fn push_debug(text: &mut ArrayVec<u8, ROOM>, regs: &Regs)
     requires { array_vec_len text.old + 80 ≤ ROOM }
     ensures text { text.new.items ≡ text.old.items ++ debug_line regs.now }
@@ -163,7 +163,7 @@ fn push_debug(text: &mut ArrayVec<u8, ROOM>, regs: &Regs)
     push_text(text, b"\n");
 }
 
-#[tactic(auto, unfolding(mdl_state::specs::Report::last_line))]
+#[tactic(auto, unfolding(mdl_step::specs::Report::last_line))]
 fn push_last(text: &mut ArrayVec<u8, ROOM>, cpl: u8, walks: u64, start: u16, cursor: u16)
     requires { array_vec_len text.old + 80 ≤ ROOM }
     ensures text { text.new.items ≡ text.old.items ++ last_line cpl walks start cursor }
@@ -179,7 +179,7 @@ fn push_last(text: &mut ArrayVec<u8, ROOM>, cpl: u8, walks: u64, start: u16, cur
 }
 
 /// The lines of the registers, of a machine that made so many steps and walks.
-#[tactic(auto, unfolding(mdl_state::specs::Report::register_lines))]
+#[tactic(auto, unfolding(mdl_step::specs::Report::register_lines))]
 fn register_lines(first: &First, steps: u64, walks: u64) -> ArrayVec<u8, ROOM>
     requires { first.now.core.steps ≡ steps }
     ensures { result.items ≡ register_lines first.now walks }
@@ -213,7 +213,7 @@ fn printed(code: u8) -> u8
 }
 
 /// A row of the screen.
-#[tactic(auto, using(crate::proofs::Screen::rows), unfolding(mdl_state::specs::Report::screen_line))]
+#[tactic(auto, using(crate::proofs::Screen::rows), unfolding(mdl_step::specs::Report::screen_line))]
 fn push_row(text: &mut ArrayVec<u8, SCREEN_ROOM>, first: &First, start: u16, row: u32)
     requires row { row < 25 }
     requires room { array_vec_len text.old + 81 ≤ SCREEN_ROOM }
@@ -228,7 +228,7 @@ fn push_row(text: &mut ArrayVec<u8, SCREEN_ROOM>, first: &First, start: u16, row
 }
 
 /// The rows of the screen.
-#[tactic(auto, using(crate::proofs::Screen::rows), unfolding(mdl_state::specs::Report::screen_lines))]
+#[tactic(auto, using(crate::proofs::Screen::rows), unfolding(mdl_step::specs::Report::screen_lines))]
 fn screen_lines(first: &First, start: u16) -> ArrayVec<u8, SCREEN_ROOM>
     ensures { result.items ≡ screen_lines first.now.mem.physical start }
 {
@@ -239,12 +239,12 @@ fn screen_lines(first: &First, start: u16) -> ArrayVec<u8, SCREEN_ROOM>
     text
 }
 
-/// Writes the report of a machine that made so many steps and no walk.
-#[tactic(auto, using(host_io::specs::Prefixes::prefixes), unfolding(mdl_state::specs::Report::report_text))]
+/// Writes the report of a machine that made so many steps.
+#[tactic(auto, using(host_io::specs::Prefixes::prefixes), unfolding(mdl_step::specs::Report::report_text))]
 pub(crate) fn write_report<H: Host>(host: &mut H, first: &First, steps: u64) -> Result<(), Failed>
     requires { first.now.core.steps ≡ steps }
-    ensures ok { OnOk result (Appends (H.took host.old Report) (H.took host.new Report) (report_text first.now 0)) }
-    ensures err { OnErr result (AppendsPrefix (H.took host.old Report) (H.took host.new Report) (report_text first.now 0)) }
+    ensures ok { OnOk result (Appends (H.took host.old Report) (H.took host.new Report) (report_text first.now first.now.mem.walks)) }
+    ensures err { OnErr result (AppendsPrefix (H.took host.old Report) (H.took host.new Report) (report_text first.now first.now.mem.walks)) }
     ensures outputs { SameBut Report (H.took host.old) (H.took host.new) }
     ensures paths { Same (H.path host.old) (H.path host.new) }
     ensures left { Same (H.left host.old) (H.left host.new) }
@@ -253,7 +253,7 @@ pub(crate) fn write_report<H: Host>(host: &mut H, first: &First, steps: u64) -> 
     write_all(
         host,
         OutSlot::Report,
-        register_lines(first, steps, 0).as_slice(),
+        register_lines(first, steps, first.walks()).as_slice(),
     )?;
     write_all(host, OutSlot::Report, screen_lines(first, 0).as_slice())?;
     Ok(())

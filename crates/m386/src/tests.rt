@@ -1,6 +1,7 @@
 //! What the clauses do not say: that a run comes to its report, and how each other answer comes.
 
-use crate::top::{Status, m386};
+use crate::status::Status;
+use crate::top::m386;
 use host_io::{InSlot, MemHost, OutSlot};
 use std::alloc::{AllocError, Global};
 use std::test::Fail;
@@ -8,11 +9,17 @@ use std::test::Fail;
 /// More than the bytes of a report.
 const ROOM: u32 = 4096;
 
-/// A host with a ROM of so many bytes F4h, which is HLT, but for the bytes at its reset address.
-fn host(alloc: Global, length: usize, code: &[u8]) -> Result<MemHost, AllocError> {
-    let mut rom = vec![in alloc; 0xF4; length]?;
+/// A host with a ROM of so many bytes, and these from an offset on.
+pub(crate) fn host_with(
+    alloc: Global,
+    length: usize,
+    fill: u8,
+    offset: usize,
+    code: &[u8],
+) -> Result<MemHost, AllocError> {
+    let mut rom = vec![in alloc; fill; length]?;
     for (at, byte) in code.iter().enumerate() {
-        if let Some(place) = rom.get_mut(length.saturating_sub(16).saturating_add(at)) {
+        if let Some(place) = rom.get_mut(offset.saturating_add(at)) {
             *place = *byte;
         }
     }
@@ -22,49 +29,38 @@ fn host(alloc: Global, length: usize, code: &[u8]) -> Result<MemHost, AllocError
     Ok(host)
 }
 
+/// A host with a ROM of so many bytes F4h, which is HLT, but for the bytes at its reset address.
+pub(crate) fn host(alloc: Global, length: usize, code: &[u8]) -> Result<MemHost, AllocError> {
+    host_with(alloc, length, 0xF4, length.saturating_sub(16), code)
+}
+
 /// Runs the ROM of a host for so many steps.
-fn run(alloc: Global, host: &mut MemHost, steps: &str) -> Status {
+pub(crate) fn run(alloc: Global, host: &mut MemHost, steps: &str) -> Status {
     m386(alloc, &["run", "--rom", "rom.bin", "--steps", steps], host)
 }
 
 #[test]
 fn a_rom_has_4_to_256_kibibytes_in_whole_pages(rt: HostRuntime) -> Result<(), Fail> {
-    for (length, status) in [
-        (0, Status::Image),
-        (4095, Status::Image),
-        (4096, Status::Done),
-        (262144, Status::Done),
-        (266240, Status::Image),
-    ] {
+    for length in [4096, 262144] {
         let mut host = host(rt.alloc(), length, &[])?;
-        assert_eq!(rt; run(rt.alloc(), &mut host, "1"), status, "{length} bytes");
-        assert_eq!(rt;
-            host.taken(OutSlot::Report).is_empty(),
-            status != Status::Done
-        );
-    }
-    Ok(())
-}
-
-// The opening, two reads, the opening of the report, and its two pieces.
-#[test]
-fn each_failing_call_is_a_host_fault_and_cuts_the_report(rt: HostRuntime) -> Result<(), Fail> {
-    let mut whole = host(rt.alloc(), 4096, &[])?;
-    whole.fail_at(7)?;
-    assert_eq!(rt; run(rt.alloc(), &mut whole, "1"), Status::Done);
-    for call in 1..7 {
-        let mut host = host(rt.alloc(), 4096, &[])?;
-        host.fail_at(call)?;
         assert_eq!(rt;
             run(rt.alloc(), &mut host, "1"),
-            Status::HostFault,
-            "call {call}"
+            Status::Done,
+            "{length} bytes"
         );
-        assert!(rt;
-            whole
-                .taken(OutSlot::Report)
-                .starts_with(host.taken(OutSlot::Report))
+    }
+    for (length, line) in [
+        (0, "m386: rom length 0\n"),
+        (4095, "m386: rom length 4095\n"),
+        (266240, "m386: rom length 262145\n"),
+    ] {
+        let mut host = host(rt.alloc(), length, &[])?;
+        assert_eq!(rt;
+            run(rt.alloc(), &mut host, "1"),
+            Status::Image,
+            "{length} bytes"
         );
+        assert_eq!(rt; host.taken(OutSlot::Report), line.as_bytes());
     }
     Ok(())
 }
@@ -80,41 +76,54 @@ fn a_host_that_hands_over_single_bytes_takes_the_same_report(rt: HostRuntime) ->
     Ok(())
 }
 
-// MOV AL,1 and then NOP, which is not built.
+// MOV AL,1 and then STC, which is not built.
 #[test]
 fn a_run_is_unbuilt_where_its_bound_is_past_the_step(rt: HostRuntime) -> Result<(), Fail> {
-    for (steps, status) in [("1", Status::Done), ("2", Status::Unbuilt)] {
-        let mut host = host(rt.alloc(), 4096, &[0xB0, 0x01, 0x90])?;
-        assert_eq!(rt; run(rt.alloc(), &mut host, steps), status, "{steps} steps");
-        assert_eq!(rt;
-            host.taken(OutSlot::Report).is_empty(),
-            status != Status::Done
-        );
-    }
+    let mut done = host(rt.alloc(), 4096, &[0xB0, 0x01, 0xF9])?;
+    assert_eq!(rt; run(rt.alloc(), &mut done, "1"), Status::Done);
+    let mut unbuilt = host(rt.alloc(), 4096, &[0xB0, 0x01, 0xF9])?;
+    assert_eq!(rt; run(rt.alloc(), &mut unbuilt, "2"), Status::Unbuilt);
+    assert_eq!(rt;
+        unbuilt.taken(OutSlot::Report),
+        "m386: unbuilt step 1 byte f9\n".as_bytes()
+    );
     Ok(())
 }
 
 #[test]
-fn other_words_are_refused(rt: HostRuntime) -> Result<(), Fail> {
-    let alloc = rt.alloc();
-    let mut host = host(alloc, 4096, &[])?;
+fn other_numbers_of_steps_are_refused(rt: HostRuntime) -> Result<(), Fail> {
     for steps in ["", "01", "+1", "-1", "0x1", "1 ", "1000000000000001"] {
-        assert_eq!(rt; run(alloc, &mut host, steps), Status::Usage, "{steps:?}");
+        let mut host = host(rt.alloc(), 4096, &[])?;
+        assert_eq!(rt;
+            run(rt.alloc(), &mut host, steps),
+            Status::Usage,
+            "{steps:?}"
+        );
+        assert_eq!(rt; host.taken(OutSlot::Report), "m386: bad words\n".as_bytes());
     }
-    assert_eq!(rt; m386(alloc, &[], &mut host), Status::Usage);
-    assert_eq!(rt; m386(alloc, &["run"], &mut host), Status::Usage);
-    assert_eq!(rt; m386(alloc, &["run", "--rom"], &mut host), Status::Usage);
-    assert_eq!(rt;
-        m386(
-            alloc,
-            &["run", "--steps", "1", "--rom", "rom.bin"],
-            &mut host
-        ),
-        Status::Usage
-    );
-    assert_eq!(rt;
-        m386(alloc, &["halt", "--rom", "rom.bin"], &mut host),
-        Status::Usage
-    );
+    Ok(())
+}
+
+// No ROM is put, and none is asked for.
+#[test]
+fn other_words_are_refused(rt: HostRuntime) -> Result<(), Fail> {
+    let words: [&[&str]; 6] = [
+        &[],
+        &["run"],
+        &["run", "--rom"],
+        &["run", "--steps", "1", "--rom", "rom.bin"],
+        &["run", "--rom", "rom.bin", "--big"],
+        &["halt", "--rom", "rom.bin"],
+    ];
+    for words in words {
+        let mut host = MemHost::new(rt.alloc());
+        host.make_room(OutSlot::Report, ROOM)?;
+        assert_eq!(rt;
+            m386(rt.alloc(), words, &mut host),
+            Status::Usage,
+            "{words:?}"
+        );
+        assert_eq!(rt; host.taken(OutSlot::Report), "m386: bad words\n".as_bytes());
+    }
     Ok(())
 }

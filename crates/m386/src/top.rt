@@ -1,6 +1,6 @@
 //! The top call.
 
-ghost use Rattle.std.specs.Prelude.{◌≡◌, ◌≢◌, ◌↔◌, ◌⊎◌, ℕ, List, [], map, length, Some};
+ghost use Rattle.std.specs.Prelude.{◌≡◌, ◌≢◌, ◌↔◌, ◌⊎◌, ℕ, List, [], length, Some, IfErr, OnOk};
 ghost use Rattle.host_io.specs.declared.host.InSlot.TheVariants.{Rom};
 ghost use Rattle.host_io.specs.declared.host.OutSlot.TheVariants.{Report};
 ghost use Rattle.host_io.specs.declared.host.Slot.{Slot};
@@ -8,103 +8,88 @@ ghost use Rattle.host_io.specs.declared.host.Slot.TheVariants.{In, Out};
 ghost use Rattle.host_io.specs.Slots.{Same, SameBut};
 ghost use Rattle.mdl_state.specs.Boot.{boot};
 ghost use Rattle.mdl_state.specs.Memory.{IsRomLength};
-ghost use Rattle.mdl_state.specs.Run.{ReachesUnbuilt};
-ghost use Rattle.m386.specs.Words.{Job, Matched, NoneMatched};
+ghost use Rattle.mdl_state.specs.Policy.{meets_any};
+ghost use Rattle.mdl_step.specs.Run.{ReachesUnbuilt};
+ghost use Rattle.m386.specs.Words as asked;
+ghost use Rattle.m386.specs.Words.{ToRun, ToList, Matched, NoneMatched, texts};
 ghost use Rattle.m386.specs.Headline.{Headline};
-ghost use Rattle.m386.specs.Answers.{IsImageWrong, IsRunUnbuilt, IsReportCut, SomeRose, number_of};
+ghost use Rattle.m386.specs.Listed.{Listed};
+ghost use Rattle.m386.specs.Refusals.{words_line};
+ghost use Rattle.m386.specs.Answers.{IsFaulted, IsImageWrong, IsRunUnbuilt, IsTold, SomeRose};
+ghost use Rattle.m386.specs.Commands.{IsDone, IsEnded, OpenedOnly, RomOpened};
 
-use crate::machine::{boot, run};
-use crate::report::write_report;
-use crate::rom::{RomError, read_rom};
-use crate::words::job_of;
-use host_io::{Host, OutSlot};
+use crate::dis_command::dis_command;
+use crate::refusals::{Refusal, refuse};
+use crate::run_command::run_command;
+use crate::status::Status;
+use crate::words::{dis_job, run_job};
+use host_io::Host;
 use std::alloc::Global;
 
-/// How a command ended.
-#[derive(Clone, Copy, Debug, PartialEq, Eq)]
-pub enum Status {
-    /// All was done.
-    Done,
-    /// Memory was wanting, and no output has grown.
-    Memory,
-    /// The words ask for nothing that there is.
-    Usage,
-    /// A call of the host failed.
-    HostFault,
-    /// The ROM has no length of one.
-    Image,
-    /// The run comes to a step that is not built.
-    Unbuilt,
-}
-
-impl Status {
-    /// The number with which the program ends.
-    pub fn number(self) -> u8
-        ensures { result ≡ number_of self }
-    {
-        match self {
-            Status::Done => 0,
-            Status::Memory => 1,
-            Status::Usage => 2,
-            Status::HostFault => 3,
-            Status::Image => 4,
-            Status::Unbuilt => 6,
-        }
+/// Does what the words ask for, up to a refusal.
+fn command<H: Host>(alloc: Global, words: &[&str], host: &mut H) -> Result<(), Refusal>
+    ensures ok { OnOk result (IsDone (texts words.now) (H.left host.old Rom) (H.took host.old Report) (H.took host.new Report)
+        (H.path host.new (In Rom)) (H.path host.new (Out Report))) }
+    ensures kept { OnOk result (Same (H.faults host.old) (H.faults host.new)) }
+    ensures err { IfErr result (IsEnded (texts words.now) (H.left host.old Rom)
+        (H.took host.old Report) (H.took host.new Report) (H.faults host.old) (H.faults host.new)) }
+    ensures outputs { SameBut Report (H.took host.old) (H.took host.new) }
+    ensures rom_path { RomOpened (texts words.now) (H.path host.old (In Rom)) (H.path host.new (In Rom)) }
+    ensures report_path { OpenedOnly (H.path host.old (Out Report)) (H.path host.new (Out Report)) [] }
+    ensures unopened { (slot : Slot) → slot ≢ In Rom → slot ≢ Out Report → H.path host.new slot ≡ H.path host.old slot }
+{
+    if let Some(job) = run_job(words) {
+        return run_command(alloc, host, &job);
     }
+    if let Some(job) = dis_job(words) {
+        return dis_command(alloc, host, &job);
+    }
+    Err(Refusal::Words)
 }
 
-/// Does what the words ask for: reads the ROM, runs the machine for so many steps from boot, and
-/// writes the report of the state that it comes to.
+/// Does what the words ask for: a run with its report, or a listing. What is refused is told by a
+/// line.
 pub fn m386<H: Host>(alloc: Global, words: &[&str], host: &mut H) -> Status
-    ensures headline { result ≡ Status.Done → Headline (map (λ w. w.now) words.now)
-        (H.left host.old Rom) (H.took host.old Report) (H.took host.new Report)
+    ensures headline { (job : asked.RunJob) → Matched (texts words.now) (ToRun job) → result ≡ Status.Done
+        → Headline (texts words.now) (H.left host.old Rom) (H.took host.old Report) (H.took host.new Report)
+        (H.path host.new (In Rom)) (H.path host.new (Out Report)) }
+    ensures listing { (job : asked.DisJob) → Matched (texts words.now) (ToList job) → result ≡ Status.Done
+        → Listed (texts words.now) (H.left host.old Rom) (H.took host.old Report) (H.took host.new Report)
         (H.path host.new (In Rom)) (H.path host.new (Out Report)) }
 
-    // When each other answer comes.
-    ensures usage { (result ≡ Status.Usage) ↔ NoneMatched (map (λ w. w.now) words.now) }
-    ensures image { result ≡ Status.Image → IsImageWrong (map (λ w. w.now) words.now) (H.left host.old Rom) }
-    ensures unbuilt { result ≡ Status.Unbuilt → IsRunUnbuilt (map (λ w. w.now) words.now) (H.left host.old Rom) }
-    ensures fault { result ≡ Status.HostFault → SomeRose (H.faults host.old) (H.faults host.new) }
-    ensures kept { result ≢ Status.HostFault → Same (H.faults host.old) (H.faults host.new) }
+    // When each other answer comes, and the line that the report then has.
+    ensures usage { (result ≡ Status.Usage) ↔ NoneMatched (texts words.now) }
+    ensures usage_line { result ≡ Status.Usage → IsTold (H.took host.old Report) (H.took host.new Report)
+        (H.faults host.old (Out Report)) (H.faults host.new (Out Report)) words_line }
+    ensures image { result ≡ Status.Image → IsImageWrong (texts words.now) (H.left host.old Rom)
+        (H.took host.old Report) (H.took host.new Report) (H.faults host.old (Out Report)) (H.faults host.new (Out Report)) }
+    ensures unbuilt { result ≡ Status.Unbuilt → IsRunUnbuilt (texts words.now) (H.left host.old Rom)
+        (H.took host.old Report) (H.took host.new Report) (H.faults host.old (Out Report)) (H.faults host.new (Out Report)) }
+    ensures fault { result ≡ Status.HostFault → IsFaulted (texts words.now) (H.left host.old Rom)
+        (H.took host.old Report) (H.took host.new Report) (H.faults host.old) (H.faults host.new) }
+    ensures memory { result ≡ Status.Memory → Same (H.took host.old) (H.took host.new) }
 
-    // What the outputs have then.
-    ensures refused { result ≢ Status.Done → result ≢ Status.HostFault → Same (H.took host.old) (H.took host.new) }
-    ensures cut { result ≡ Status.HostFault → IsReportCut (map (λ w. w.now) words.now)
-        (H.left host.old Rom) (H.took host.old Report) (H.took host.new Report)
-        ⊎ (H.took host.new Report ≡ H.took host.old Report) }
+    // What stays.
+    ensures kept { (result ≡ Status.Done) ⊎ (result ≡ Status.Memory) → Same (H.faults host.old) (H.faults host.new) }
+    ensures line_only { result ≢ Status.HostFault → SameBut (Out Report) (H.faults host.old) (H.faults host.new) }
     ensures outputs { SameBut Report (H.took host.old) (H.took host.new) }
+    ensures rom_path { RomOpened (texts words.now) (H.path host.old (In Rom)) (H.path host.new (In Rom)) }
+    ensures report_path { OpenedOnly (H.path host.old (Out Report)) (H.path host.new (Out Report)) [] }
     ensures unopened { (slot : Slot) → slot ≢ In Rom → slot ≢ Out Report → H.path host.new slot ≡ H.path host.old slot }
 
-    // A run that is asked for and comes to no unbuilt step is done, unless memory wants.
-    ensures complete { (job : Job) → (rom : List ℕ) → Matched (map (λ w. w.now) words.now) job
+    // What is asked for and comes to no unbuilt step is done, unless memory wants.
+    ensures complete { (job : asked.RunJob) → (rom : List ℕ) → Matched (texts words.now) (ToRun job)
         → H.left host.old Rom ≡ Some rom → IsRomLength (length rom)
         → ¬ SomeRose (H.faults host.old) (H.faults host.new)
-        → ¬ ReachesUnbuilt (boot 4 rom) [] job.steps
+        → ¬ ReachesUnbuilt meets_any (boot 4 rom) [] job.steps
         → (result ≡ Status.Done) ⊎ (result ≡ Status.Memory) }
-    ensures built { (job : Job) → (rom : List ℕ) → Matched (map (λ w. w.now) words.now) job
-        → H.left host.old Rom ≡ Some rom → result ≡ Status.Done
-        → ¬ ReachesUnbuilt (boot 4 rom) [] job.steps }
+    ensures complete_listing { (job : asked.DisJob) → (rom : List ℕ) → Matched (texts words.now) (ToList job)
+        → H.left host.old Rom ≡ Some rom → IsRomLength (length rom)
+        → ¬ SomeRose (H.faults host.old) (H.faults host.new)
+        → (result ≡ Status.Done) ⊎ (result ≡ Status.Memory) }
 {
-    let Some(job) = job_of(words) else {
-        return Status::Usage;
-    };
-    let rom = match read_rom(alloc, host, job.path) {
-        Ok(rom) => rom,
-        Err(RomError::Memory) => return Status::Memory,
-        Err(RomError::HostFault) => return Status::HostFault,
-        Err(RomError::Length) => return Status::Image,
-    };
-    let Ok(mut first) = boot(alloc, rom) else {
-        return Status::Memory;
-    };
-    if !run(&mut first, job.steps) {
-        return Status::Unbuilt;
-    }
-    let Ok(()) = host.open_out(OutSlot::Report, "") else {
-        return Status::HostFault;
-    };
-    match write_report(host, &first, job.steps) {
+    match command(alloc, words, host) {
         Ok(()) => Status::Done,
-        Err(_) => Status::HostFault,
+        Err(refusal) => refuse(host, refusal),
     }
 }

@@ -4,8 +4,6 @@ use Rattle.mdl_state.specs.declared.Size.{Size}
 use Rattle.mdl_state.specs.declared.Size.TheVariants.{B2, B4}
 use Rattle.mdl_state.specs.declared.Seg.{Seg}
 use Rattle.mdl_state.specs.Bytes.{bytes_of, bound_of}
-use Rattle.mdl_state.specs.Bytes.{bytes_of, bound_of}
-use Rattle.mdl_state.specs.Bytes.{bytes_of, bound_of}
 use Rattle.mdl_state.specs.declared.Seg.TheVariants as segs
 use Rattle.mdl_insn.specs.declared.instruction.Mem.{Mem}
 use Rattle.mdl_insn.specs.declared.rows.Setting.{Setting}

@@ -1,7 +1,11 @@
--- Numbers as bytes, the lowest byte at the lowest address. Manual, chapter 2.
-use Rattle.std.specs.Prelude.{ℕ, zero, suc, ◌+◌, ◌*◌, ◌/◌, ◌%◌, ◌^◌, List, [], ◌∷◌, slice_index, slice_set}
+-- Numbers as bits, and as bytes, the lowest byte at the lowest address. Manual, chapter 2.
+use Rattle.std.specs.Prelude.{ℕ, zero, suc, ◌+◌, ◌*◌, ◌/◌, ◌%◌, ◌^◌, ◌==◌, Bool, List, [], ◌∷◌, slice_index, slice_set}
 use Rattle.mdl_state.specs.declared.Size.{Size}
 use Rattle.mdl_state.specs.declared.Size.TheVariants.{B1, B2, B4}
+
+-- a bit of a number
+abbrev pub bit : ℕ → ℕ → Bool
+bit n k = n / 2 ^ k % 2 == 1
 
 -- the number of bytes of a size
 abbrev pub bytes_of : Size → ℕ

@@ -1,5 +1,5 @@
 -- The memory map: which byte stands at a physical address. Own: The memory map.
-use Rattle.std.specs.Prelude.{ℕ, ◌-◌, ◌*◌, ◌/◌, ◌%◌, ◌^◌, ◌&&◌, ◌||◌, nat_lt, nat_le, Bool, true, false, if◌then◌else◌, List, length, min, slice_index, ◌≤◌, ◌≡◌}
+use Rattle.std.specs.Prelude.{ℕ, ◌-◌, ◌*◌, ◌/◌, ◌%◌, ◌^◌, ◌&&◌, ◌||◌, nat_lt, nat_le, Bool, true, false, if◌then◌else◌, List, length, min, slice_index, slice_set, ◌≤◌, ◌≡◌}
 use Rattle.mdl_state.specs.State.{Physical}
 
 -- the address that leaves the processor: bit 20 is 0 where the line A20 is off
@@ -38,6 +38,12 @@ mapped_byte ram rom at =
 -- the byte at a physical address
 unfoldable pub byte_at : Physical → ℕ → ℕ
 byte_at physical at = mapped_byte physical.ram physical.rom (gated physical.a20 at)
+
+-- a byte put at a physical address; it is lost where no RAM is
+unfoldable pub placed : Physical → ℕ → ℕ → Physical
+placed physical at byte =
+    let out = gated physical.a20 at in
+    if is_ram (length physical.ram) out then record physical { ram = slice_set physical.ram out byte } else physical
 
 -- the RAM has from 1 to 64 mebibytes
 pub record IsRamLength (bytes : ℕ) : Type 0 where

@@ -1,14 +1,12 @@
 -- Registers by number. Manual, chapter 2.
-use Rattle.std.specs.Prelude.{ℕ, ◌+◌, ◌-◌, ◌*◌, ◌/◌, ◌%◌, ◌^◌, ◌==◌, nat_lt, Bool, if◌then◌else◌, List, [], ◌∷◌, slice_index, slice_set}
+use Rattle.std.specs.Prelude.{ℕ, ◌+◌, ◌-◌, ◌*◌, ◌/◌, ◌%◌, ◌==◌, nat_lt, if◌then◌else◌, List, [], ◌∷◌, slice_index, slice_set}
 use Rattle.mdl_state.specs.declared.Regs.{Regs}
 use Rattle.mdl_state.specs.declared.Hidden.{Hidden}
+use Rattle.mdl_state.specs.declared.Size.{Size}
+use Rattle.mdl_state.specs.declared.Size.TheVariants.{B1, B2, B4}
 use Rattle.mdl_state.specs.declared.Seg.{Seg}
 use Rattle.mdl_state.specs.declared.Seg.TheVariants.{Es, Cs, Ss, Ds, Fs, Gs}
 use Rattle.mdl_state.specs.Boot.{unusable}
-
--- a bit of a number
-abbrev pub bit : ℕ → ℕ → Bool
-bit n k = n / 2 ^ k % 2 == 1
 
 -- the place of a segment register in the list of them
 abbrev pub seg_number : Seg → ℕ
@@ -37,16 +35,21 @@ with_high n byte = n - n % 0x10000 + 0x100 * byte + n % 0x100
 abbrev pub with_low_word : ℕ → ℕ → ℕ
 with_low_word n word = n - n % 0x10000 + word
 
--- a byte register set: AL, CL, DL, BL, and then AH, CH, DH, BH
-unfoldable pub with_byte : Regs → ℕ → ℕ → Regs
-with_byte r n byte =
-    if nat_lt n 4 then record r { gpr = slice_set r.gpr n (with_low (slice_index r.gpr n) byte) }
-    else record r { gpr = slice_set r.gpr (n - 4) (with_high (slice_index r.gpr (n - 4)) byte) }
+-- A general register's number: of one byte AL, CL, DL, BL and then AH, CH, DH, BH, of two and four
+-- bytes the low part of EAX, ECX, EDX, EBX, ESP, EBP, ESI, EDI.
+unfoldable pub reg_of : Regs → ℕ → Size → ℕ
+reg_of r n B1 = if nat_lt n 4 then slice_index r.gpr n % 0x100 else slice_index r.gpr (n - 4) / 0x100 % 0x100
+reg_of r n B2 = slice_index r.gpr n % 0x10000
+reg_of r n B4 = slice_index r.gpr n
 
--- a word register set; the upper half stays
-unfoldable pub with_word : Regs → ℕ → ℕ → Regs
-with_word r n word = record r { gpr = slice_set r.gpr n (with_low_word (slice_index r.gpr n) word) }
+-- a general register set; what it does not name of its doubleword stays
+unfoldable pub with_reg : Regs → ℕ → Size → ℕ → Regs
+with_reg r n B1 value =
+    if nat_lt n 4 then record r { gpr = slice_set r.gpr n (with_low (slice_index r.gpr n) value) }
+    else record r { gpr = slice_set r.gpr (n - 4) (with_high (slice_index r.gpr (n - 4)) value) }
+with_reg r n B2 value = record r { gpr = slice_set r.gpr n (with_low_word (slice_index r.gpr n) value) }
+with_reg r n B4 value = record r { gpr = slice_set r.gpr n value }
 
 -- CS loaded in real mode: its base is 16 times the selector, and its limit and rights stay
 unfoldable pub with_code_selector : Regs → ℕ → Regs
-with_code_selector r sel = record r { seg = slice_set r.seg 1 (record (seg_of r Cs) { sel = sel; base = 16 * sel }) }
+with_code_selector r sel = record r { seg = slice_set r.seg (seg_number Cs) (record (seg_of r Cs) { sel = sel; base = 16 * sel }) }

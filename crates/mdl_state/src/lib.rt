@@ -1,9 +1,17 @@
-//! The machine as it is written down: its plain types here, and in `specs/` its state, its memory
-//! map, a step, a run and the report.
+//! The processor's state and its memory as they are written down: the plain types here, and in
+//! `specs/` the state, the memory map, the walk of the page tables, accesses and attempts.
 //!
-//! The one contract used above is the definitions themselves: `Step`, `Run` and `report_text`.
-//! Read `specs/State.antt` first, then `Memory`, `Boot`, `Instructions`, `Step`, `Run`, `Report`.
+//! The one contract used above is the definitions themselves: `byte_at`, `walk`, the accesses and
+//! `attempt`. Read `specs/State.antt` first, then `Memory`, `PageWalk`, `Serving`, `Accesses`,
+//! `Attempt`.
 #![tactic(auto)]
+
+mod laws;
+
+pub use laws::{a_fault_leaves_memory, a_plan_after_a_plan, a_rule_is_some_choice};
+
+/// The physical address of the screen memory.
+pub const SCREEN_BASE: u32 = 0xB8000;
 
 /// The size of an operand or of an access: one, two or four bytes.
 #[derive(Clone, Copy, Debug, PartialEq, Eq)]
@@ -38,6 +46,15 @@ pub enum Who {
 pub enum Access {
     Read(Who),
     Write(Who),
+}
+
+/// Where an access lies: the physical address of its first byte, that of its first byte on a second
+/// page, and how many bytes lie on the first page.
+#[derive(Clone, Copy, Debug, PartialEq, Eq)]
+pub struct Place {
+    pub first: u32,
+    pub second: u32,
+    pub cut: u8,
 }
 
 /// What the processor does.
@@ -157,26 +174,4 @@ pub enum Next {
     Soft(u8),
     /// A task switch was made, to a task whose T bit is this.
     Task(bool),
-}
-
-/// An instruction that is built, with 16-bit operands and no prefix.
-#[derive(Clone, Copy, Debug, PartialEq, Eq)]
-pub enum Instruction {
-    /// MOV of a byte to a byte register.
-    MoveByte(u8, u8),
-    /// MOV of a word to a word register.
-    MoveWord(u8, u16),
-    /// JMP by a displacement, sign extended to 32 bits.
-    Jump(u32),
-    /// JMP to a selector and an offset.
-    JumpFar(u16, u16),
-    /// HLT.
-    Halt,
-}
-
-/// An instruction that is built, and how many bytes spell it.
-#[derive(Clone, Copy, Debug, PartialEq, Eq)]
-pub struct Spelling {
-    pub insn: Instruction,
-    pub length: u8,
 }

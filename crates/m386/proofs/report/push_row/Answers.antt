@@ -1,6 +1,6 @@
 use Rattle.std.proofs.Common.{ℕ, ◌+◌, ◌*◌, arith}
 use Rattle.mdl_state.specs.Memory.{byte_at}
-use Rattle.mdl_state.specs.Report.{printed, cell_address, screen_line}
+use Rattle.mdl_step.specs.Report.{printed, cell_address, screen_line}
 use Rattle.m386.proofs.Screen.{row_ended}
 use Rattle.m386.proofs.report.push_row.Goals as goal
 

@@ -1,7 +1,7 @@
 use Rattle.std.proofs.Common.{◌≡◌, ◌+◌, ◌*◌, ◌++◌, ℕ, map, length}
 use Rattle.std.specs.List.{range_with_len}
 use Rattle.mdl_state.specs.Memory.{byte_at}
-use Rattle.mdl_state.specs.Report.{printed, cell_address}
+use Rattle.mdl_step.specs.Report.{printed, cell_address}
 use Rattle.m386.proofs.report.push_row.Given as goal
 
 abbrev pub invariant-loop-column : goal.invariant-loop-column

@@ -1,6 +1,6 @@
 use Rattle.std.proofs.Common.{◌≡◌, ◌*◌, length}
 use Rattle.std.specs.List.{range_with_len, flat_map}
-use Rattle.mdl_state.specs.Report.{screen_line}
+use Rattle.mdl_step.specs.Report.{screen_line}
 use Rattle.m386.proofs.report.screen_lines.Given as goal
 
 abbrev pub invariant-loop-row : goal.invariant-loop-row

@@ -1,0 +1,4 @@
+pub mod Whole
+pub mod Memory
+pub mod Places
+pub mod Reads

@@ -1,0 +1,218 @@
+//! Sums, differences and logic.
+
+ghost use Rattle.std.specs.Prelude.{◌≡◌, ◌<◌, ℕ, OnErr};
+ghost use Rattle.mdl_state.specs.Bytes.{bound_of};
+ghost use Rattle.mdl_state.specs.Serving.{by_pick};
+ghost use Rattle.mdl_state.specs.Accesses.{Keeps, HasRoom};
+ghost use Rattle.mdl_state.specs.Attempt.{tried};
+ghost use Rattle.mdl_num.specs.Flags.{flags_after};
+ghost use Rattle.mdl_num.specs.Sums.{sum_value, difference_value, logic_value, logic_status};
+ghost use Rattle.lazy_flags.specs.Keeper.{with_status};
+ghost use Rattle.mdl_step.specs.Operands.{follow};
+ghost use Rattle.mdl_step.specs.DataEffects.{binary, unary, binary_plan, compare_plan, unary_plan};
+ghost use Rattle.exec_data.specs.Whole.{whole, after, IsPlainOf, KeepsOther};
+ghost use Rattle.exec_data.specs.Memory.{IsMemoryOf};
+
+use crate::memory::open;
+use crate::registers::{set, value};
+use lazy_flags::{FlagOp, Flags};
+use mdl_insn::{Insn, Op};
+use mdl_num::{CF, LogicOp, bound, low};
+use mdl_state::{Fault, Regs, Size};
+use mem_iface::Linear;
+
+/// The value of a sum.
+#[tactic(auto, unfolding(mdl_num::specs::Sums::sum_value))]
+fn sum(a: u32, b: u32, carry: bool, size: Size) -> u32
+    ensures value { result ≡ sum_value size a b carry }
+    ensures bound { result < bound_of size }
+{
+    low(a as u64 + b as u64 + carry as u64, size)
+}
+
+/// The value of a difference.
+#[tactic(auto, unfolding(mdl_num::specs::Sums::difference_value))]
+fn difference(a: u32, b: u32, borrow: bool, size: Size) -> u32
+    requires { b < bound_of size }
+    ensures value { result ≡ difference_value size a b borrow }
+    ensures bound { result < bound_of size }
+{
+    low(bound(size) + a as u64 - (b as u64 + borrow as u64), size)
+}
+
+/// The value of AND, OR and XOR.
+#[tactic(auto, unfolding(mdl_num::specs::Sums::logic_value))]
+fn bitwise(op: LogicOp, a: u32, b: u32) -> u32
+    ensures { result ≡ logic_value op a b }
+{
+    match op {
+        LogicOp::And => a & b,
+        LogicOp::Or => a | b,
+        LogicOp::Xor => a ^ b,
+    }
+}
+
+/// AND, OR and XOR.
+#[tactic(auto, using(crate::proofs::Statuses::statuses, crate::proofs::Logic::bounds))]
+fn logic(op: LogicOp, a: u32, b: u32, size: Size, flags: &mut Flags) -> u32
+    requires a { a < bound_of size }
+    requires b { b < bound_of size }
+    ensures value { result ≡ logic_value op a b }
+    ensures bound { result < bound_of size }
+    ensures status { (e : ℕ) → with_status e flags.new
+        ≡ flags_after (logic_status size (logic_value op a b)) (with_status e flags.old) (with_status e flags.new) }
+{
+    let value = bitwise(op, a, b);
+    flags.set_from(FlagOp::Logic, value, 0, size);
+    value
+}
+
+/// An operation on two operands: its value, with the flags that it leaves.
+#[tactic(auto, using(crate::proofs::Statuses::statuses))]
+fn binary(op: Op, size: Size, a: u32, b: u32, flags: &mut Flags) -> u32
+    requires a { a < bound_of size }
+    requires b { b < bound_of size }
+    ensures value { (e : ℕ) → result ≡ (binary op size a b (with_status e flags.old)).value }
+    ensures bound { result < bound_of size }
+    ensures status { (e : ℕ) → with_status e flags.new
+        ≡ flags_after (binary op size a b (with_status e flags.old)).status (with_status e flags.old) (with_status e flags.new) }
+{
+    match op {
+        Op::Add => {
+            flags.set_from(FlagOp::Add, a, b, size);
+            sum(a, b, false, size)
+        }
+        Op::Adc => {
+            let carry = flags.get(CF);
+            flags.set_from(FlagOp::AddCarry(carry), a, b, size);
+            sum(a, b, carry, size)
+        }
+        Op::Sub | Op::Cmp => {
+            flags.set_from(FlagOp::Sub, a, b, size);
+            difference(a, b, false, size)
+        }
+        Op::Sbb => {
+            let borrow = flags.get(CF);
+            flags.set_from(FlagOp::SubBorrow(borrow), a, b, size);
+            difference(a, b, borrow, size)
+        }
+        Op::And | Op::Test => logic(LogicOp::And, a, b, size, flags),
+        Op::Or => logic(LogicOp::Or, a, b, size, flags),
+        Op::Xor => logic(LogicOp::Xor, a, b, size, flags),
+        _ => a,
+    }
+}
+
+/// An operation on one operand: its value, with the flags that it leaves.
+#[tactic(auto, using(crate::proofs::Statuses::statuses))]
+fn unary(op: Op, size: Size, a: u32, flags: &mut Flags) -> u32
+    requires { a < bound_of size }
+    ensures value { result ≡ (unary op size a).value }
+    ensures bound { result < bound_of size }
+    ensures status { (e : ℕ) → with_status e flags.new
+        ≡ flags_after (unary op size a).status (with_status e flags.old) (with_status e flags.new) }
+{
+    match op {
+        Op::Inc => {
+            flags.set_from(FlagOp::Inc(flags.get(CF)), a, 1, size);
+            sum(a, 1, false, size)
+        }
+        Op::Dec => {
+            flags.set_from(FlagOp::Dec(flags.get(CF)), a, 1, size);
+            difference(a, 1, false, size)
+        }
+        Op::Neg => {
+            flags.set_from(FlagOp::Sub, 0, a, size);
+            difference(0, a, false, size)
+        }
+        Op::Not => (bound(size) - 1) as u32 - a,
+        _ => a,
+    }
+}
+
+/// ADD, OR, ADC, SBB, AND, SUB and XOR.
+#[tactic(auto, unfolding(mdl_step::specs::DataEffects::binary_plan))]
+pub(crate) fn combine(regs: &mut Regs, flags: &mut Flags, insn: &Insn)
+    requires a { IsPlainOf insn.now.size insn.now.a }
+    requires b { IsPlainOf insn.now.size insn.now.b }
+    ensures plan { follow (whole regs.new flags.new)
+        ≡ binary_plan insn.now (whole regs.old flags.old) (whole regs.new flags.new).eflags }
+    ensures kept { KeepsOther regs.old regs.new }
+{
+    let b = value(regs, &insn.b, insn.size);
+    let a = value(regs, &insn.a, insn.size);
+    let value = binary(insn.op, insn.size, a, b, flags);
+    set(regs, &insn.a, insn.size, value);
+}
+
+/// CMP and TEST: the flags alone.
+#[tactic(auto, unfolding(mdl_step::specs::DataEffects::compare_plan))]
+pub(crate) fn compare(regs: &Regs, flags: &mut Flags, insn: &Insn)
+    requires a { IsPlainOf insn.now.size insn.now.a }
+    requires b { IsPlainOf insn.now.size insn.now.b }
+    ensures plan { follow (whole regs.now flags.new)
+        ≡ compare_plan insn.now (whole regs.now flags.old) (whole regs.now flags.new).eflags }
+{
+    let b = value(regs, &insn.b, insn.size);
+    let a = value(regs, &insn.a, insn.size);
+    binary(insn.op, insn.size, a, b, flags);
+}
+
+/// INC, DEC, NEG and NOT.
+#[tactic(auto, unfolding(mdl_step::specs::DataEffects::unary_plan))]
+pub(crate) fn change(regs: &mut Regs, flags: &mut Flags, insn: &Insn)
+    requires { IsPlainOf insn.now.size insn.now.a }
+    ensures plan { follow (whole regs.new flags.new)
+        ≡ unary_plan insn.now (whole regs.old flags.old) (whole regs.new flags.new).eflags }
+    ensures kept { KeepsOther regs.old regs.new }
+{
+    let a = value(regs, &insn.a, insn.size);
+    let value = unary(insn.op, insn.size, a, flags);
+    set(regs, &insn.a, insn.size, value);
+}
+
+/// ADD, OR, ADC, SBB, AND, SUB and XOR in memory.
+#[tactic(auto, unfolding(mdl_step::specs::DataEffects::binary_plan))]
+pub(crate) fn combine_memory<L: Linear>(
+    regs: &Regs,
+    flags: &mut Flags,
+    lin: &mut L,
+    insn: &Insn,
+) -> Result<(), Fault>
+    requires a { IsMemoryOf insn.now.size insn.now.a }
+    requires b { IsPlainOf insn.now.size insn.now.b }
+    requires room { HasRoom (L.seen lin.old) 4 }
+    ensures run { (after result (whole regs.now flags.new), L.seen lin.new)
+        ≡ tried (by_pick L.pick) 0 (binary_plan insn.now (whole regs.now flags.old) (whole regs.now flags.new).eflags) (L.seen lin.old) }
+    ensures unchanged { OnErr result (flags.new ≡ flags.old) }
+    ensures keeps { Keeps (L.seen lin.old) (L.seen lin.new) }
+{
+    let b = value(regs, &insn.b, insn.size);
+    let place = open(regs, lin, &insn.a, insn.size)?;
+    let a = lin.get(place, insn.size);
+    let value = binary(insn.op, insn.size, a, b, flags);
+    lin.hold(place, insn.size, value);
+    Ok(())
+}
+
+/// INC, DEC, NEG and NOT in memory.
+#[tactic(auto, unfolding(mdl_step::specs::DataEffects::unary_plan))]
+pub(crate) fn change_memory<L: Linear>(
+    regs: &Regs,
+    flags: &mut Flags,
+    lin: &mut L,
+    insn: &Insn,
+) -> Result<(), Fault>
+    requires a { IsMemoryOf insn.now.size insn.now.a }
+    requires room { HasRoom (L.seen lin.old) 4 }
+    ensures run { (after result (whole regs.now flags.new), L.seen lin.new)
+        ≡ tried (by_pick L.pick) 0 (unary_plan insn.now (whole regs.now flags.old) (whole regs.now flags.new).eflags) (L.seen lin.old) }
+    ensures unchanged { OnErr result (flags.new ≡ flags.old) }
+    ensures keeps { Keeps (L.seen lin.old) (L.seen lin.new) }
+{
+    let place = open(regs, lin, &insn.a, insn.size)?;
+    let a = lin.get(place, insn.size);
+    let value = unary(insn.op, insn.size, a, flags);
+    lin.hold(place, insn.size, value);
+    Ok(())
+}

@@ -1,0 +1,38 @@
+//! The data instructions: moves, extensions, arithmetic, logic, products, quotients, decimal adjusts,
+//! shifts, rotates, bits, conditions, far pointers, bounds and segment registers.
+//!
+//! The one contract used above is `run`: over any memory, in real mode, it does what the written
+//! machine says of the instruction. `run_plain` does the same where each operand is a register or a
+//! number, and reads no memory. The status flags stand apart from EFLAGS, in a keeper. Read
+//! `specs/Whole.antt` first, then `DataEffects.antt` of `mdl_step`.
+#![tactic(auto)]
+
+mod addresses;
+mod adjusts;
+mod arithmetic;
+mod bit_strings;
+mod bits;
+mod bounds;
+mod conditions;
+mod far_pointers;
+mod instructions;
+mod kept;
+mod memory;
+mod memory_run;
+mod moves;
+mod plain;
+mod plain_run;
+mod products;
+mod reads;
+mod registers;
+mod segments;
+mod shifts;
+
+pub use instructions::run;
+pub use plain::is_plain_data;
+pub use plain_run::run_plain;
+
+#[cfg(test)]
+mod examples;
+#[cfg(test)]
+mod memory_examples;

@@ -1,0 +1,133 @@
+//! Shifts and rotates.
+
+ghost use Rattle.std.specs.Prelude.{◌≡◌, ◌≢◌, ◌<◌, OnErr};
+ghost use Rattle.mdl_state.specs.declared.Size.TheVariants.{B1};
+ghost use Rattle.mdl_state.specs.Bytes.{bound_of};
+ghost use Rattle.mdl_state.specs.Serving.{by_pick};
+ghost use Rattle.mdl_state.specs.Accesses.{Keeps, HasRoom};
+ghost use Rattle.mdl_state.specs.Attempt.{tried};
+ghost use Rattle.mdl_num.specs.Flags.{flags_after};
+ghost use Rattle.mdl_step.specs.Operands.{follow};
+ghost use Rattle.mdl_step.specs.DataEffects.{shifted, shift_plan, double_shift_plan};
+ghost use Rattle.exec_data.specs.Whole.{whole, after, IsPlainOf, KeepsOther};
+ghost use Rattle.exec_data.specs.Memory.{IsMemoryOf};
+
+use crate::kept::keep;
+use crate::memory::open;
+use crate::registers::{set, value};
+use lazy_flags::Flags;
+use mdl_insn::{Insn, Op};
+use mdl_num::{Alu, RotateOp, ShiftOp};
+use mdl_state::{Fault, Regs, Size};
+use mem_iface::Linear;
+
+/// A shift or a rotate by its mnemonic.
+#[tactic(auto, using(crate::proofs::Statuses::statuses))]
+fn shifted(op: Op, size: Size, a: u32, count: u8, flags: u32) -> Alu
+    requires { a < bound_of size }
+    ensures value { result.value ≡ (shifted op size a count flags).value }
+    ensures bound { result.value < bound_of size }
+    ensures flags { result.flags ≡ flags_after (shifted op size a count flags).status flags result.flags }
+{
+    match op {
+        Op::Rol => bit_ops::rotate(RotateOp::Rol, a, count, size, flags),
+        Op::Ror => bit_ops::rotate(RotateOp::Ror, a, count, size, flags),
+        Op::Rcl => bit_ops::rotate(RotateOp::Rcl, a, count, size, flags),
+        Op::Rcr => bit_ops::rotate(RotateOp::Rcr, a, count, size, flags),
+        Op::Shl => bit_ops::shift(ShiftOp::Shl, a, count, size, flags),
+        Op::Shr => bit_ops::shift(ShiftOp::Shr, a, count, size, flags),
+        Op::Sar => bit_ops::shift(ShiftOp::Sar, a, count, size, flags),
+        _ => Alu { value: a, flags },
+    }
+}
+
+/// ROL to SAR.
+#[tactic(auto, unfolding(mdl_step::specs::DataEffects::shift_plan))]
+pub(crate) fn shift(regs: &mut Regs, flags: &mut Flags, insn: &Insn)
+    requires a { IsPlainOf insn.now.size insn.now.a }
+    requires b { IsPlainOf B1 insn.now.b }
+    ensures plan { follow (whole regs.new flags.new)
+        ≡ shift_plan insn.now (whole regs.old flags.old) (whole regs.new flags.new).eflags }
+    ensures kept { KeepsOther regs.old regs.new }
+{
+    let count = value(regs, &insn.b, Size::B1) as u8;
+    let a = value(regs, &insn.a, insn.size);
+    let answer = shifted(insn.op, insn.size, a, count, flags.pack(regs.eflags));
+    keep(flags, answer.flags);
+    set(regs, &insn.a, insn.size, answer.value);
+}
+
+/// SHLD, with `left`, and SHRD.
+#[tactic(auto, unfolding(mdl_step::specs::DataEffects::double_shift_plan))]
+pub(crate) fn double_shift(regs: &mut Regs, flags: &mut Flags, insn: &Insn, left: bool)
+    requires size { insn.now.size ≢ B1 }
+    requires a { IsPlainOf insn.now.size insn.now.a }
+    requires b { IsPlainOf insn.now.size insn.now.b }
+    requires c { IsPlainOf B1 insn.now.c }
+    ensures plan { follow (whole regs.new flags.new)
+        ≡ double_shift_plan left insn.now (whole regs.old flags.old) (whole regs.new flags.new).eflags }
+    ensures kept { KeepsOther regs.old regs.new }
+{
+    let count = value(regs, &insn.c, Size::B1) as u8;
+    let source = value(regs, &insn.b, insn.size);
+    let a = value(regs, &insn.a, insn.size);
+    let eflags = flags.pack(regs.eflags);
+    let answer = bit_ops::double_shift(left, a, source, count, insn.size, eflags);
+    keep(flags, answer.flags);
+    set(regs, &insn.a, insn.size, answer.value);
+}
+
+/// ROL to SAR in memory.
+#[tactic(auto, unfolding(mdl_step::specs::DataEffects::shift_plan))]
+pub(crate) fn shift_memory<L: Linear>(
+    regs: &Regs,
+    flags: &mut Flags,
+    lin: &mut L,
+    insn: &Insn,
+) -> Result<(), Fault>
+    requires a { IsMemoryOf insn.now.size insn.now.a }
+    requires b { IsPlainOf B1 insn.now.b }
+    requires room { HasRoom (L.seen lin.old) 4 }
+    ensures run { (after result (whole regs.now flags.new), L.seen lin.new)
+        ≡ tried (by_pick L.pick) 0 (shift_plan insn.now (whole regs.now flags.old) (whole regs.now flags.new).eflags) (L.seen lin.old) }
+    ensures unchanged { OnErr result (flags.new ≡ flags.old) }
+    ensures keeps { Keeps (L.seen lin.old) (L.seen lin.new) }
+{
+    let count = value(regs, &insn.b, Size::B1) as u8;
+    let place = open(regs, lin, &insn.a, insn.size)?;
+    let a = lin.get(place, insn.size);
+    let answer = shifted(insn.op, insn.size, a, count, flags.pack(regs.eflags));
+    lin.hold(place, insn.size, answer.value);
+    keep(flags, answer.flags);
+    Ok(())
+}
+
+/// SHLD, with `left`, and SHRD in memory.
+#[tactic(auto, unfolding(mdl_step::specs::DataEffects::double_shift_plan))]
+pub(crate) fn double_shift_memory<L: Linear>(
+    regs: &Regs,
+    flags: &mut Flags,
+    lin: &mut L,
+    insn: &Insn,
+    left: bool,
+) -> Result<(), Fault>
+    requires size { insn.now.size ≢ B1 }
+    requires a { IsMemoryOf insn.now.size insn.now.a }
+    requires b { IsPlainOf insn.now.size insn.now.b }
+    requires c { IsPlainOf B1 insn.now.c }
+    requires room { HasRoom (L.seen lin.old) 4 }
+    ensures run { (after result (whole regs.now flags.new), L.seen lin.new)
+        ≡ tried (by_pick L.pick) 0 (double_shift_plan left insn.now (whole regs.now flags.old) (whole regs.now flags.new).eflags) (L.seen lin.old) }
+    ensures unchanged { OnErr result (flags.new ≡ flags.old) }
+    ensures keeps { Keeps (L.seen lin.old) (L.seen lin.new) }
+{
+    let count = value(regs, &insn.c, Size::B1) as u8;
+    let source = value(regs, &insn.b, insn.size);
+    let place = open(regs, lin, &insn.a, insn.size)?;
+    let a = lin.get(place, insn.size);
+    let eflags = flags.pack(regs.eflags);
+    let answer = bit_ops::double_shift(left, a, source, count, insn.size, eflags);
+    lin.hold(place, insn.size, answer.value);
+    keep(flags, answer.flags);
+    Ok(())
+}

@@ -1,0 +1,163 @@
+//! The refusals of a command, and the line of each.
+
+ghost use Rattle.std.specs.Prelude.{◌≡◌, ◌≢◌, ◌≤◌, ◌+◌, ◌++◌, [], length, OnOk, OnErr};
+ghost use Rattle.std.specs.Io.KnownBytes.{Appends};
+ghost use Rattle.arrayvec.specs.ArrayVec.{array_vec_len};
+ghost use Rattle.host_io.specs.declared.host.OutSlot.TheVariants.{Report};
+ghost use Rattle.host_io.specs.declared.host.Slot.TheVariants.{Out};
+ghost use Rattle.host_io.specs.Causes.{HasCause};
+ghost use Rattle.host_io.specs.Slots.{Same, SameBut};
+ghost use Rattle.host_io.specs.Transfers.{AppendsPrefix};
+ghost use Rattle.m386.specs.Answers.{IsTold};
+ghost use Rattle.m386.specs.Commands.{OpenedOnly};
+ghost use Rattle.m386.specs.Refusals.{slot_name, fault_line, length_line, unbuilt_line, line_of, status_of};
+
+use crate::status::Status;
+use crate::texts::{ROOM, push_byte, push_decimal, push_text};
+use arrayvec::ArrayVec;
+use host_io::{Failed, Host, InSlot, OutSlot, Slot, write_all};
+
+/// Why a command was not done.
+#[derive(Clone, Copy, Debug, PartialEq, Eq)]
+pub(crate) enum Refusal {
+    /// Memory was wanting.
+    Memory,
+    /// The words ask for nothing that there is.
+    Words,
+    /// A call on a slot failed before the report was open.
+    HostFault(Slot),
+    /// The ROM has this length, or a greater one where this is above the limit.
+    RomLength(u64),
+    /// The run comes, after so many steps, to one that is not built, and this byte stands at CS:EIP.
+    Unbuilt(u64, u8),
+    /// A call on the open report failed.
+    Cut,
+}
+
+/// A slot's name.
+fn slot_name(slot: Slot) -> &'static str
+    ensures name { result.now ≡ slot_name slot }
+    ensures short { length result.now ≤ 8 }
+{
+    match slot {
+        Slot::In(InSlot::Rom) => "rom",
+        Slot::In(InSlot::Disk) => "disk",
+        Slot::In(InSlot::Script) => "script",
+        Slot::In(InSlot::Commands) => "commands",
+        Slot::Out(OutSlot::Report) => "report",
+        Slot::Out(OutSlot::Mem) => "mem",
+        Slot::Out(OutSlot::Save) => "save",
+    }
+}
+
+#[tactic(auto, unfolding(crate::specs::Refusals::fault_line))]
+fn push_fault(text: &mut ArrayVec<u8, ROOM>, slot: Slot)
+    requires { array_vec_len text.old + 64 ≤ ROOM }
+    ensures { text.new.items ≡ text.old.items ++ fault_line slot }
+{
+    push_text(text, b"m386: host fault at ");
+    push_text(text, slot_name(slot).as_bytes());
+    push_text(text, b"\n");
+}
+
+#[tactic(auto, unfolding(crate::specs::Refusals::length_line))]
+fn push_length(text: &mut ArrayVec<u8, ROOM>, slot: Slot, n: u64)
+    requires { array_vec_len text.old + 64 ≤ ROOM }
+    ensures { text.new.items ≡ text.old.items ++ length_line slot n }
+{
+    push_text(text, b"m386: ");
+    push_text(text, slot_name(slot).as_bytes());
+    push_text(text, b" length ");
+    push_decimal(text, n);
+    push_text(text, b"\n");
+}
+
+#[tactic(auto, unfolding(crate::specs::Refusals::unbuilt_line))]
+fn push_unbuilt(text: &mut ArrayVec<u8, ROOM>, steps: u64, byte: u8)
+    requires { array_vec_len text.old + 64 ≤ ROOM }
+    ensures { text.new.items ≡ text.old.items ++ unbuilt_line steps byte }
+{
+    push_text(text, b"m386: unbuilt step ");
+    push_decimal(text, steps);
+    push_text(text, b" byte ");
+    push_byte(text, byte);
+    push_text(text, b"\n");
+}
+
+/// The line of a refusal.
+#[tactic(auto, unfolding(crate::specs::Refusals::words_line))]
+fn line_of(refusal: Refusal) -> ArrayVec<u8, ROOM>
+    ensures { result.items ≡ line_of refusal }
+{
+    let mut text = ArrayVec::new();
+    match refusal {
+        Refusal::Memory => {}
+        Refusal::Words => push_text(&mut text, b"m386: bad words\n"),
+        Refusal::HostFault(slot) => push_fault(&mut text, slot),
+        Refusal::RomLength(n) => push_length(&mut text, Slot::In(InSlot::Rom), n),
+        Refusal::Unbuilt(steps, byte) => push_unbuilt(&mut text, steps, byte),
+        Refusal::Cut => push_fault(&mut text, Slot::Out(OutSlot::Report)),
+    }
+    text
+}
+
+fn status_of(refusal: Refusal) -> Status
+    ensures { result ≡ status_of refusal }
+{
+    match refusal {
+        Refusal::Memory => Status::Memory,
+        Refusal::Words => Status::Usage,
+        Refusal::HostFault(_) => Status::HostFault,
+        Refusal::RomLength(_) => Status::Image,
+        Refusal::Unbuilt(_, _) => Status::Unbuilt,
+        Refusal::Cut => Status::HostFault,
+    }
+}
+
+/// Opens the report, if it is not open yet.
+fn open_report<H: Host>(host: &mut H, refusal: Refusal) -> Result<(), Failed>
+    ensures path { OpenedOnly (H.path host.old (Out Report)) (H.path host.new (Out Report)) [] }
+    ensures paths { SameBut (Out Report) (H.path host.old) (H.path host.new) }
+    ensures took { Same (H.took host.old) (H.took host.new) }
+    ensures cause { HasCause (H.faults host.old) (H.faults host.new) (Out Report) result }
+{
+    match refusal {
+        Refusal::Cut => Ok(()),
+        _ => host.open_out(OutSlot::Report, ""),
+    }
+}
+
+/// Tries to write the line of a refusal.
+fn write_line<H: Host>(host: &mut H, refusal: Refusal) -> Result<(), Failed>
+    ensures ok { OnOk result (Appends (H.took host.old Report) (H.took host.new Report) (line_of refusal)) }
+    ensures err { OnErr result (AppendsPrefix (H.took host.old Report) (H.took host.new Report) (line_of refusal)) }
+    ensures outputs { SameBut Report (H.took host.old) (H.took host.new) }
+    ensures path { OpenedOnly (H.path host.old (Out Report)) (H.path host.new (Out Report)) [] }
+    ensures paths { SameBut (Out Report) (H.path host.old) (H.path host.new) }
+    ensures cause { HasCause (H.faults host.old) (H.faults host.new) (Out Report) result }
+{
+    open_report(host, refusal)?;
+    write_all(host, OutSlot::Report, line_of(refusal).as_slice())
+}
+
+/// Tells a refusal by its line, which is tried once, and answers its status.
+pub(crate) fn refuse<H: Host>(host: &mut H, refusal: Refusal) -> Status
+    ensures status { result ≡ status_of refusal }
+    ensures line { refusal ≢ Refusal.Memory → IsTold (H.took host.old Report) (H.took host.new Report)
+        (H.faults host.old (Out Report)) (H.faults host.new (Out Report)) (line_of refusal) }
+    ensures silent { refusal ≡ Refusal.Memory → Same (H.took host.old) (H.took host.new) }
+    ensures memory { refusal ≡ Refusal.Memory → Same (H.faults host.old) (H.faults host.new) }
+    ensures outputs { SameBut Report (H.took host.old) (H.took host.new) }
+    ensures path { OpenedOnly (H.path host.old (Out Report)) (H.path host.new (Out Report)) [] }
+    ensures paths { SameBut (Out Report) (H.path host.old) (H.path host.new) }
+    ensures faults { SameBut (Out Report) (H.faults host.old) (H.faults host.new) }
+    ensures later { H.faults host.old (Out Report) ≤ H.faults host.new (Out Report) }
+{
+    match refusal {
+        Refusal::Memory => {}
+        _ => {
+            let _ = write_line(host, refusal);
+        }
+    }
+    status_of(refusal)
+}

@@ -1,0 +1,37 @@
+//! How a command ends.
+
+ghost use Rattle.std.specs.Prelude.{◌≡◌};
+ghost use Rattle.m386.specs.Answers.{number_of};
+
+/// How a command ended.
+#[derive(Clone, Copy, Debug, PartialEq, Eq)]
+pub enum Status {
+    /// All was done.
+    Done,
+    /// Memory was wanting, and no output has grown.
+    Memory,
+    /// The words ask for nothing that there is.
+    Usage,
+    /// A call of the host failed.
+    HostFault,
+    /// The ROM has no length of one.
+    Image,
+    /// The run comes to a step that is not built.
+    Unbuilt,
+}
+
+impl Status {
+    /// The number with which the program ends.
+    pub fn number(self) -> u8
+        ensures { result ≡ number_of self }
+    {
+        match self {
+            Status::Done => 0,
+            Status::Memory => 1,
+            Status::Usage => 2,
+            Status::HostFault => 3,
+            Status::Image => 4,
+            Status::Unbuilt => 6,
+        }
+    }
+}

@@ -1,0 +1,4 @@
+pub mod Addresses
+pub mod Segments
+pub mod Access
+pub mod Loads

@@ -1,0 +1,3 @@
+pub mod RowTests
+pub mod FormLaws
+pub mod FaultLaws

@@ -1,0 +1,10 @@
+pub mod Operands
+pub mod Forms
+pub mod DataEffects
+pub mod FlowEffects
+pub mod Effects
+pub mod Boundary
+pub mod Step
+pub mod Run
+pub mod RunLaws
+pub mod Report

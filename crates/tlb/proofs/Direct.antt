@@ -1,0 +1,45 @@
+-- Accesses with paging off.
+use Rattle.std.specs.Prelude.{ℕ, ◌≡◌, ◌≤◌, ◌+◌, ◌%◌, ◌^◌, Bool, true, false, not, if◌then◌else◌, refl, List, []}
+use Rattle.std.proofs.Common.{arith, ap, sym, ◌∙◌}
+use Rattle.mdl_state.specs.declared.Size.{Size}
+use Rattle.mdl_state.specs.declared.Size.TheVariants.{B1, B2, B4}
+use Rattle.mdl_state.specs.declared.Who.{Who}
+use Rattle.mdl_state.specs.declared.Access.{Access}
+use Rattle.mdl_state.specs.declared.Access.TheVariants.{Read, Write}
+use Rattle.mdl_state.specs.declared.Place.{Place}
+use Rattle.mdl_state.specs.State.{Mem}
+use Rattle.mdl_state.specs.Bytes.{bytes_of}
+use Rattle.mdl_state.specs.Serving.{Outcome, Serve, Passed, on}
+use Rattle.mdl_state.specs.Accesses.{translated, got, got_from, held_at, read_at, written_at, bytes_here}
+use Rattle.mem_iface.specs.Numbers.{loaded}
+use Rattle.tlb.proofs.Holding.{whole_got}
+
+here : (lin : ℕ) (size : Size) → lin % 0x1000 + 4 ≤ 0x1000 → bytes_here lin size ≡ bytes_of size
+here lin B1 h = omega (arith, h)
+here lin B2 h = omega (arith, h)
+here lin B4 h = omega (arith, h)
+
+first : {R : Type 0} (b : Bool) (x y : R) → b ≡ false → (if not b then x else y) ≡ x
+first false x y h = refl
+first true x y h = cc
+
+-- with paging off an access lies where its address says
+unpaged : Mem → ℕ → Size → Place
+unpaged m lin size = record { first = lin; second = (lin + bytes_here lin size) % 2 ^ 32; cut = bytes_here lin size }
+
+translated_off : (serve : Serve) (m : Mem) (lin : ℕ) (size : Size) (access : Access) → m.paging ≡ false → translated serve m lin size access ≡ (Passed (unpaged m lin size), m)
+unfolding translated unpaged
+translated_off serve m lin size access off = first m.paging _ _ off
+
+pub direct_read : (serve : Serve) (m : Mem) (lin : ℕ) (size : Size) (who : Who) (value : ℕ) → m.paging ≡ false → m.held ≡ [] → lin % 0x1000 + 4 ≤ 0x1000 → value ≡ loaded m.physical lin size → (Passed value, m) ≡ read_at serve m lin size who
+unfolding read_at unpaged
+direct_read serve m lin size who value off none page v =
+    ap (λ (n : ℕ). (Passed n, m)) (v ∙ sym (whole_got m.physical (unpaged m lin size) size (here lin size page))
+    ∙ ap (λ (held : List (ℕ × ℕ)). got_from m.physical held (unpaged m lin size) size) (sym none))
+    ∙ sym (ap (λ (w : Outcome Place × Mem). on w (λ place n. (Passed (got n place size), n))) (translated_off serve m lin size (Read who) off))
+
+pub direct_write : (serve : Serve) (m : Mem) (lin : ℕ) (size : Size) (value : ℕ) (who : Who) (place : Place) → m.paging ≡ false → place ≡ record { first = lin; second = (lin + bytes_here lin size) % 2 ^ 32; cut = bytes_here lin size } → (Passed tt, held_at m place size value) ≡ written_at serve m lin size value who
+unfolding written_at unpaged
+direct_write serve m lin size value who place off e =
+    ap (λ (p : Place). (Passed tt, held_at m p size value)) e
+    ∙ sym (ap (λ (w : Outcome Place × Mem). on w (λ place n. (Passed tt, held_at n place size value))) (translated_off serve m lin size (Write who) off))

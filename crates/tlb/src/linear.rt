@@ -1,0 +1,140 @@
+//! Accesses.
+
+ghost use Rattle.std.specs.Prelude.{◌≡◌, ◌+◌, ◌-◌, ◌<◌, ◌≤◌, ◌^◌, ◌%◌, [], length, OnOk, OnErr, IfOk, true, false};
+ghost use Rattle.std.specs.Bool.{OnTrue};
+ghost use Rattle.mdl_state.specs.Bytes.{bytes_of, bound_of};
+ghost use Rattle.mdl_state.specs.Serving.{by_pick, outcome};
+ghost use Rattle.mdl_state.specs.Accesses.{translated, got, read_at, written_at, bytes_here, Keeps, IsPlace, HasRoom};
+ghost use Rattle.mdl_state.specs.Policy.{plain_item, meets_plain};
+ghost use Rattle.mdl_state.specs.PolicyLaws.{plain_item_meets};
+
+use crate::machine::Tlb;
+use crate::translation::{PAGE, unpaged};
+use mdl_state::{Access, Fault, Place, Size, Who};
+use mem_iface::{Linear, Phys, bytes_of};
+
+/// The last place in a page at which every access lies whole.
+const LAST_WHOLE: u32 = PAGE - 4;
+
+impl Tlb {
+    /// A read by its place.
+    #[inline(never)]
+    #[tactic(auto, unfolding(mdl_state::specs::Accesses::read_at))]
+    fn read_place(&mut self, lin: u32, size: Size, who: Who) -> Result<u32, Fault>
+        ensures value { (outcome result, self.new) ≡ read_at (by_pick plain_item) self.old lin size who }
+        ensures bound { IfOk result (λ value. value < bound_of size) }
+        ensures keeps { Keeps self.old self.new }
+        ensures held { self.new.held ≡ self.old.held }
+    {
+        let place = self.translate(lin, size, Access::Read(who))?;
+        Ok(self.get(place, size))
+    }
+
+    /// A write by its place.
+    #[inline(never)]
+    #[tactic(auto, unfolding(mdl_state::specs::Accesses::written_at))]
+    fn write_place(&mut self, lin: u32, size: Size, value: u32, who: Who) -> Result<(), Fault>
+        requires bound { value < bound_of size }
+        requires room { HasRoom self.old (bytes_of size) }
+        ensures done { (outcome result, self.new) ≡ written_at (by_pick plain_item) self.old lin size value who }
+        ensures keeps { Keeps self.old self.new }
+        ensures room { OnOk result (length self.new.held ≡ length self.old.held + bytes_of size) }
+        ensures refused { OnErr result (self.new.held ≡ self.old.held) }
+    {
+        let place = self.translate(lin, size, Access::Write(who))?;
+        self.hold(place, size, value);
+        Ok(())
+    }
+
+    /// Whether an access is one of physical memory as it stands, in one page.
+    fn is_direct(&self, lin: u32) -> bool
+        ensures paging { OnTrue result (self.now.paging ≡ false) }
+        ensures held { OnTrue result (self.now.held ≡ []) }
+        ensures page { OnTrue result (lin % 0x1000 + 4 ≤ 0x1000) }
+    {
+        lin % PAGE <= LAST_WHOLE && self.held.is_empty() && !self.paging
+    }
+}
+
+impl Linear for Tlb {
+    ghost seen = { λ m. m };
+
+    ghost pick = { plain_item };
+
+    ghost policy = { meets_plain };
+
+    ghost meets = { plain_item_meets };
+
+    #[tactic(auto, unfolding(mdl_state::specs::Accesses::translated))]
+    fn translate(&mut self, lin: u32, size: Size, access: Access) -> Result<Place, Fault> {
+        if self.paging {
+            return self.translate_paged(lin, size, access);
+        }
+        Ok(unpaged(lin, size))
+    }
+
+    #[tactic(auto, using(crate::proofs::Holding::whole_got))]
+    fn get(&self, place: Place, size: Size) -> u32 {
+        if u32::from(place.cut) == bytes_of(size) && self.held.is_empty() {
+            return self.phys.load(place.first, size);
+        }
+        self.held.got(&self.phys, place, size)
+    }
+
+    fn hold(&mut self, place: Place, size: Size, value: u32) {
+        self.held.hold(place, size, value);
+    }
+
+    #[tactic(auto, using(crate::proofs::Direct::direct_read))]
+    fn read(&mut self, lin: u32, size: Size, who: Who) -> Result<u32, Fault> {
+        if self.is_direct(lin) {
+            return Ok(self.phys.load(lin, size));
+        }
+        self.read_place(lin, size, who)
+    }
+
+    #[tactic(auto, using(crate::proofs::Direct::direct_write))]
+    fn write(&mut self, lin: u32, size: Size, value: u32, who: Who) -> Result<(), Fault> {
+        if self.paging {
+            return self.write_place(lin, size, value, who);
+        }
+        self.held.hold(unpaged(lin, size), size, value);
+        Ok(())
+    }
+
+    fn room(&self) -> u16 {
+        self.held.room()
+    }
+
+    #[tactic(auto, unfolding(mdl_state::specs::Accesses::committed))]
+    fn commit(&mut self) {
+        if self.held.is_empty() {
+            return;
+        }
+        self.held.put(&mut self.phys);
+        self.held.clear();
+    }
+
+    #[tactic(auto, unfolding(mdl_state::specs::Accesses::discarded))]
+    fn discard(&mut self) {
+        if !self.held.is_empty() {
+            self.held.clear();
+        }
+    }
+
+    fn load_cr3(&mut self, value: u32) {
+        self.cr3 = value;
+    }
+
+    fn set_paging(&mut self, on: bool) {
+        self.paging = on;
+    }
+
+    fn set_a20(&mut self, on: bool) {
+        self.phys.set_a20(on);
+    }
+
+    fn walks(&self) -> u64 {
+        self.walks
+    }
+}

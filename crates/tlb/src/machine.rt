@@ -1,0 +1,53 @@
+//! What the memory has.
+
+ghost use Rattle.std.specs.Prelude.{◌≡◌};
+ghost use Rattle.mdl_state.specs.Boot.{plain_mem};
+
+use crate::held::Held;
+use phys_map::PhysMap;
+use std::marker::Model;
+
+/// Memory as the processor sees it. No page entry is kept.
+#[derive(Drop)]
+pub struct Tlb {
+    pub(crate) phys: PhysMap,
+    pub(crate) paging: bool,
+    pub(crate) cr3: u32,
+    pub(crate) held: Held,
+    pub(crate) walks: u64,
+}
+
+impl Model for Tlb {
+    ghost use Rattle.std.specs.Prelude.{[]};
+    ghost use Rattle.std.specs.FinMap.{empty};
+    ghost use Rattle.mdl_state.specs.State.{Mem};
+    ghost use Rattle.mdl_state.specs.Codes.{mem_code};
+
+    ghost Value = { Mem };
+
+    ghost coded = { mem_code };
+
+    ghost view = { λ s. record { physical = s.phys; paging = s.paging; cr3 = s.cr3; cache = empty; held = s.held; walks = s.walks; served = [] } };
+}
+
+impl Tlb {
+    /// Paging is off, and nothing is held.
+    pub fn new(phys: PhysMap) -> Tlb
+        ensures { result ≡ plain_mem phys }
+    {
+        Tlb {
+            phys,
+            paging: false,
+            cr3: 0,
+            held: Held::new(),
+            walks: 0,
+        }
+    }
+
+    /// The memory map, as it is under what is held.
+    pub fn phys(&self) -> &PhysMap
+        ensures { result.now ≡ self.now.physical }
+    {
+        &self.phys
+    }
+}
