@@ -1,5 +1,5 @@
 -- Whether an instruction faults, and how, does not hang on the flags that it leaves free.
-use Rattle.std.proofs.Common.{◌≡◌, ℕ, ◌*◌, Bool, true, false, subst, sym, ◌∙◌}
+use Rattle.std.proofs.Common.{◌≡◌, ℕ, ◌*◌, Bool, true, false, refl, subst, sym, ap, ◌∙◌}
 use Rattle.std.specs.Prelude.{◌==◌, if◌then◌else◌, ⊤, Result, Ok, Err}
 use Rattle.mdl_state.specs.declared.Regs.{Regs}
 use Rattle.mdl_state.specs.declared.Size.{Size}
@@ -30,38 +30,46 @@ use Rattle.mdl_num.specs.Shifts.{double_shift_value, double_shift_flags}
 use Rattle.mdl_num.specs.Bits.{bit_test_status, scan_value, scan_status}
 use Rattle.mdl_num.specs.Decimal.{al_of, aam_value, aad_value, digits_status}
 use Rattle.mdl_step.specs.Operands.{After, Made, follow, no_such, is_nothing, is_plain, value_of, with_flags, memory_read, memory_change, reading, updating}
-use Rattle.mdl_step.specs.DataEffects.{Answer, answer, flagged, binary, unary, shifted, with_product, high_number, signed_answer, divide_error, adjusted, bit_place, bit_offset, bit_read, bit_change, bit_made, binary_plan, compare_plan, unary_plan, multiply_plan, signed_multiply_plan, quotient_plan, divide_plan, signed_divide_plan, adjust_plan, digits_plan, from_digits_plan, shift_plan, double_shift_plan, bit_test_plan, bit_change_plan, scan_plan, by_mnemonic, data_effect}
-use Rattle.mdl_step.specs.Effects.{by_op, effect}
+use Rattle.mdl_step.specs.Arithmetic.{Answer, answer, flagged, binary, unary, with_product, high_number, signed_answer, divide_error, adjusted, binary_plan, compare_plan, unary_plan, multiply_plan, signed_multiply_plan, quotient_plan, divide_plan, signed_divide_plan, adjust_plan, digits_plan, from_digits_plan}
+use Rattle.mdl_step.specs.Shifts.{shifted, bit_place, bit_offset, bit_read, bit_change, bit_made, shift_plan, double_shift_plan, bit_test_plan, bit_change_plan, scan_plan}
+use Rattle.mdl_step.specs.DataEffects.{runs_data, by_mnemonic, data_effect}
+use Rattle.mdl_insn.specs.declared.instruction.Rep.{Rep}
+use Rattle.mdl_insn.specs.declared.instruction.Rep.TheVariants as rep
+use Rattle.mdl_state.specs.declared.Next.TheVariants.{Follow}
+use Rattle.mdl_step.specs.FlowEffects.{count_of}
+use Rattle.mdl_step.specs.StringEffects.{read_source, read_destination, past_both, past_destination, compared, compare_strings_plan, scan_string_plan, iterate_by, iterate_plan, counted_after, repeating, string_plan}
+use Rattle.mdl_step.specs.FarEffects.{far_jump_plan}
+use Rattle.mdl_step.specs.Effects.{runs_flow, flow_effect, runs_string, is_far_jump, is_halt, halt_plan, effect}
 
 -- a fault for one number is that for each other
-pub record SameFault (plan : ℕ → Plan After) : Type 0 where
+pub record SameFault {A : Type 0} (plan : ℕ → Plan A) : Type 0 where
   pub same : (serve : Serve) (given free other : ℕ) (fault : Fault) (m n : Mem) → tried serve given (plan free) m ≡ (Failed fault, n) → tried serve given (plan other) m ≡ (Failed fault, n)
 
-abbrev IsPassed : Outcome After × Mem → Type 0
+abbrev IsPassed : {A : Type 0} → Outcome A × Mem → Type 0
 IsPassed (Passed x, m) = ⊤
 IsPassed (Failed fault, m) = ⊥
 IsPassed (NoStep, m) = ⊥
 
 -- what always passes
-done : (x : ℕ → After) → SameFault (λ free. Done (x free))
+done : {A : Type 0} (x : ℕ → A) → SameFault (λ free. Done (x free))
 done x = record { same = λ serve given free other fault m n e. absurd (subst IsPassed e tt) }
 
 -- what does not hang on the number
-fixed : (plan : Plan After) → SameFault (λ _. plan)
+fixed : {A : Type 0} (plan : Plan A) → SameFault (λ _. plan)
 fixed plan = record { same = λ serve given free other fault m n e. e }
 
-either : (b : Bool) (p q : ℕ → Plan After) → SameFault p → SameFault q → SameFault (λ free. if b then p free else q free)
+either : {A : Type 0} (b : Bool) (p q : ℕ → Plan A) → SameFault p → SameFault q → SameFault (λ free. if b then p free else q free)
 either true p q hp hq = hp
 either false p q hp hq = hq
 
 -- going on after a part, where what follows has the same fault for each number
-on_part : {A : Type 0} (k l : A → Mem → Outcome After × Mem) (fault : Fault) (w : Outcome A × Mem) (n : Mem)
+on_part : {A B : Type 0} (k l : A → Mem → Outcome B × Mem) (fault : Fault) (w : Outcome A × Mem) (n : Mem)
     → ((x : A) (m : Mem) → k x m ≡ (Failed fault, n) → l x m ≡ (Failed fault, n)) → on w k ≡ (Failed fault, n) → on w l ≡ (Failed fault, n)
 on_part k l fault (Passed x, m) n h e = h x m e
 on_part k l fault (Failed f, m) n h e = e
 on_part k l fault (NoStep, m) n h e = e
 
-after : {A : Type 0} (q : Plan A) (k : ℕ → A → Plan After) → ((x : A) → SameFault (λ free. k free x)) → SameFault (λ free. then_plan q (k free))
+after : {A B : Type 0} (q : Plan A) (k : ℕ → A → Plan B) → ((x : A) → SameFault (λ free. k free x)) → SameFault (λ free. then_plan q (k free))
 after q k h = record {
   same = λ serve given free other fault m n e.
       tried-then_plan serve given q (k other) m ∙ on_part (λ x o. tried serve given (k free x) o) (λ x o. tried serve given (k other x) o) fault (tried serve given q m) n
@@ -222,12 +230,73 @@ data_effect_same : (insn : Insn) (r : Regs) → SameFault (data_effect insn r)
 unfolding data_effect
 data_effect_same insn r = data_same insn.op insn r
 
-op_same : (op : Op) (insn : Insn) (r : Regs) (back : ℕ) → SameFault (by_op op insn r back)
-op_same ops.Jmp insn r back = fixed _
-op_same ops.Jmpf insn r back = fixed _
-op_same ops.Hlt insn r back = fixed _
-op_same _ insn r back = data_effect_same insn r
+-- ---- strings
+
+fault_of : {A : Type 0} → Outcome A × Mem → Fault → Fault
+fault_of (Failed f, m) none = f
+fault_of _ none = none
+
+abbrev IsFault : {A : Type 0} → Outcome A × Mem → Type 0
+IsFault (Passed x, m) = ⊥
+IsFault (Failed f, m) = ⊤
+IsFault (NoStep, m) = ⊥
+
+refused : {A B : Type 0} (f fault : Fault) (m n : Mem) → ◌≡◌ {A = Outcome B × Mem} (Failed f, m) (Failed fault, n) → ◌≡◌ {A = Outcome A × Mem} (Failed f, m) (Failed fault, n)
+unfolding fault_of
+refused f fault m n e =
+    let same : f ≡ fault = ap (λ w. fault_of w f) e in
+    let there : m ≡ n = ap (λ w. w.1) e in
+    rw (same, there) refl
+
+-- what always passes behind a part leaves the fault to the part
+passes : {A B : Type 0} (w v : Outcome A × Mem) (x : A → B) (fault : Fault) (n : Mem)
+    → (w ≡ (Failed fault, n) → v ≡ (Failed fault, n)) → on w (λ y m. (Passed (x y), m)) ≡ (Failed fault, n) → on v (λ y m. (Passed (x y), m)) ≡ (Failed fault, n)
+passes (Passed y, m) v x fault n h e = absurd (subst IsPassed e tt)
+passes (Failed f, m) v x fault n h e = ap (λ w. on w (λ y m. (Passed (x y), m))) (h (refused f fault m n e))
+passes (NoStep, m) v x fault n h e = absurd (subst IsFault (sym e) tt)
+
+before : {A B : Type 0} (p : ℕ → Plan A) (x : A → B) → SameFault p → SameFault (λ free. then_plan (p free) (λ y. Done (x y)))
+before p x h = record {
+  same = λ serve given free other fault m n e.
+      tried-then_plan serve given (p other) (λ y. Done (x y)) m
+      ∙ passes (tried serve given (p free) m) (tried serve given (p other) m) x fault n (h.same serve given free other fault m n) (sym (tried-then_plan serve given (p free) (λ y. Done (x y)) m) ∙ e);
+}
+
+compare_strings_same : (insn : Insn) (r : Regs) → SameFault (compare_strings_plan insn r)
+unfolding compare_strings_plan
+compare_strings_same insn r = after (read_source insn r) (λ free a. then_plan (read_destination insn r) (λ b. Done (past_both (compared r insn.size a b free) insn)))
+    (λ a. after (read_destination insn r) (λ free b. Done (past_both (compared r insn.size a b free) insn)) (λ b. done _))
+
+scan_string_same : (insn : Insn) (r : Regs) → SameFault (scan_string_plan insn r)
+unfolding scan_string_plan
+scan_string_same insn r = after (read_destination insn r) (λ free b. Done (past_destination (compared r insn.size (reg_of r 0 insn.size) b free) insn)) (λ b. done _)
+
+iterate_by_same : (op : Op) (insn : Insn) (r : Regs) → SameFault (iterate_by op insn r)
+iterate_by_same ops.Movs insn r = fixed _
+iterate_by_same ops.Cmps insn r = compare_strings_same insn r
+iterate_by_same ops.Stos insn r = fixed _
+iterate_by_same ops.Lods insn r = fixed _
+iterate_by_same ops.Scas insn r = scan_string_same insn r
+iterate_by_same _ insn r = fixed _
+
+iterate_same : (insn : Insn) (r : Regs) → SameFault (iterate_plan insn r)
+unfolding iterate_plan
+iterate_same insn r = iterate_by_same insn.op insn r
+
+repeating_same : (kind : Rep) (insn : Insn) (r : Regs) → SameFault (repeating kind insn r)
+repeating_same rep.Plain insn r = before (iterate_plan insn r) (λ q. record { regs = q; next = Follow }) (iterate_same insn r)
+repeating_same _ insn r = either (count_of r insn.wide == 0) _ _ (fixed (follow r)) (before (iterate_plan insn r) (counted_after insn) (iterate_same insn r))
+
+string_same : (insn : Insn) (r : Regs) → SameFault (string_plan insn r)
+unfolding string_plan
+string_same insn r = repeating_same insn.rep insn r
+
+-- ---- all of them
 
 pub same_fault : (insn : Insn) (r : Regs) (back : ℕ) → SameFault (effect insn r back)
 unfolding effect
-same_fault insn r back = op_same insn.op insn r back
+same_fault insn r back =
+    either (runs_data insn) _ _ (data_effect_same insn r)
+    (either (runs_flow insn) _ _ (fixed (flow_effect insn r back))
+    (either (runs_string insn.op) _ _ (string_same insn r)
+    (fixed (if is_far_jump insn.op insn.a then far_jump_plan insn r else if is_halt insn.op then halt_plan r else no_such))))

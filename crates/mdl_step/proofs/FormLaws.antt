@@ -1,5 +1,5 @@
 -- What some bytes spell has operands of the sizes and numbers that its mnemonic's rows give.
-use Rattle.std.proofs.Common.{◌≡◌, ◌≢◌, ℕ, ◌*◌, ◌^◌, ◌<◌, ◌≤◌, ◌==◌, ◌&&◌, Bool, true, false, cond, List, [], ◌∷◌, ◌++◌, length, refl, sym, ap, subst, ◌∙◌, arith, rules}
+use Rattle.std.proofs.Common.{◌≡◌, ◌≢◌, ◌⊎◌, inl, inr, ℕ, ◌*◌, ◌^◌, ◌<◌, ◌≤◌, ◌==◌, ◌&&◌, Bool, true, false, cond, List, [], ◌∷◌, ◌++◌, length, refl, sym, ap, subst, ◌∙◌, arith, rules}
 use Rattle.std.specs.Prelude.{nat_lt, not, ◌||◌}
 use Rattle.std.proofs.Math.Nat.{pow-suc}
 use Rattle.std.proofs.lemmas.List.{append-nil}
@@ -17,7 +17,7 @@ use Rattle.mdl_insn.specs.declared.rows.Width.{Width}
 use Rattle.mdl_insn.specs.declared.rows.Width.TheVariants.{Byte, Full, Four}
 use Rattle.mdl_insn.specs.declared.rows.Kind.{Kind}
 use Rattle.mdl_insn.specs.declared.rows.Form.{Form}
-use Rattle.mdl_insn.specs.declared.rows.Form.TheVariants.{No, Eb, Ev, Ew, Gb, Gv, M, S, Sd, Ib, Iv, Is, Ob, Ov, Rb, Rv, Al, Ax, Cl, Once, Cd, Dd, Es, Cs, Ss, Ds, Fs, Gs}
+use Rattle.mdl_insn.specs.declared.rows.Form.TheVariants.{No, Eb, Ev, Ew, Gb, Gv, M, S, Sd, Ib, Iv, Iw, Is, Jb, Jv, Ob, Ov, Rb, Rv, Al, Ax, Cl, Once, Cd, Dd, Es, Cs, Ss, Ds, Fs, Gs}
 use Rattle.mdl_insn.specs.declared.rows.Row.{Row}
 use Rattle.mdl_insn.specs.Tree.{IsBytes}
 use Rattle.mdl_insn.specs.Addresses.{mod_of, rm_of, extend}
@@ -26,9 +26,9 @@ use Rattle.mdl_insn.specs.Prefixes.{has, operand_size_prefix, setting}
 use Rattle.mdl_insn.specs.Spelling.{size_of, insn_of, opcode_last, SpeltRow, Spelt}
 use Rattle.mdl_insn.proofs.PrefixEnds.{fit_back}
 use Rattle.mdl_step.specs.DataEffects.{is_data, is_address, is_special, is_segment_pop, runs_data}
-use Rattle.mdl_step.specs.Effects.{is_plain_data}
+use Rattle.mdl_step.specs.Effects.{is_plain_data, is_flow, runs_flow}
 use Rattle.mdl_step.specs.Forms.{IsOf, IsWithin, IsMove, IsFormedAs, IsFormed}
-use Rattle.mdl_step.specs.Operands.{is_plain}
+use Rattle.mdl_step.specs.Operands.{is_plain, is_segment}
 use Rattle.mdl_step.proofs.RowTests.{row_tested}
 
 -- ---- the test of a row
@@ -81,6 +81,18 @@ is_full Ov = true
 is_full Rv = true
 is_full Ax = true
 is_full _ = false
+
+-- nothing, a segment register, a displacement, or of the operand size
+abbrev is_loose : Form → Bool
+is_loose Jb = true
+is_loose Jv = true
+is_loose f = is_full f || is_segment_form f
+
+-- nothing, or a number of a word
+abbrev is_word_number : Form → Bool
+is_word_number No = true
+is_word_number Iw = true
+is_word_number _ = false
 
 -- nothing, or of no more than the operand size
 abbrev is_narrow : Form → Bool
@@ -140,18 +152,34 @@ are_formed ops.Lss w a b c = is_wide w && is_of w a && is_of w b
 are_formed ops.Lfs w a b c = is_wide w && is_of w a && is_of w b
 are_formed ops.Lgs w a b c = is_wide w && is_of w a && is_of w b
 are_formed ops.Bound w a b c = is_wide w && is_of w a && is_of w b
-are_formed ops.Pop w a b c = is_wide w
+are_formed ops.Push w a b c = is_wide w && is_loose a
+are_formed ops.Pop w a b c = is_wide w && is_loose a
+are_formed ops.Jmp w a b c = is_wide w && is_loose a
+are_formed ops.Call w a b c = is_wide w && is_loose a
+are_formed ops.Ret w a b c = is_word_number a
+are_formed ops.Enter w a b c = is_word_number a && is_byte b
+are_formed (ops.Jcc number) w a b c = true
+are_formed ops.Loop w a b c = true
+are_formed ops.Loope w a b c = true
+are_formed ops.Loopne w a b c = true
+are_formed ops.Jcxz w a b c = true
+are_formed ops.Pusha w a b c = true
+are_formed ops.Popa w a b c = true
+are_formed ops.Leave w a b c = true
+are_formed ops.Clc w a b c = true
+are_formed ops.Stc w a b c = true
+are_formed ops.Cmc w a b c = true
+are_formed ops.Cld w a b c = true
+are_formed ops.Std w a b c = true
+are_formed ops.Lahf w a b c = true
+are_formed ops.Sahf w a b c = true
 are_formed _ w a b c = is_of w a && is_of w b && is_of w c
 
-abbrev is_pop : Op → Bool
-is_pop ops.Pop = true
-is_pop _ = false
-
--- the row may give a data instruction
+-- the row may give a data instruction, or one of flow, stack and flags
 abbrev may_run : Row → Bool
-may_run r = (is_data r.op && not (is_special_form r.a) && not (is_special_form r.b)) || is_address r.op || is_pop r.op
+may_run r = (is_data r.op && not (is_special_form r.a) && not (is_special_form r.b)) || is_address r.op || is_flow r.op
 
--- the row of a data instruction has forms as its mnemonic asks
+-- the row of such an instruction has forms as its mnemonic asks
 abbrev is_formed : Row → Bool
 is_formed r = not (may_run r) || are_formed r.op r.width r.a r.b r.c
 
@@ -234,16 +262,39 @@ word_of : (s : Setting) (p : Place) (f : Form) (x : ℕ) → is_word f ≡ true 
 word_of s p Ew x e = elim (mod_of p.modrm == 3) as (λ v. IsOf B2 (cond v (Gpr (rm_of p.modrm) B2) (At p.mem B2))) [ true ↦ (refl, omega arith) | false ↦ refl ]
 word_of s p _ x e = absurd cc
 
+loose_of : (s : Setting) (p : Place) (f : Form) (x : ℕ) → x < 256 ^ own_len s f → is_loose f ≡ true → IsOf s.size (operand s p f x)
+loose_of s p Jb x lt e = tt
+loose_of s p Jv x lt e = tt
+loose_of s p S x lt e = tt
+loose_of s p Sd x lt e = tt
+loose_of s p Es x lt e = tt
+loose_of s p Cs x lt e = tt
+loose_of s p Ss x lt e = tt
+loose_of s p Ds x lt e = tt
+loose_of s p Fs x lt e = tt
+loose_of s p Gs x lt e = tt
+loose_of s p No x lt e = tt
+loose_of s p Ev x lt e = full_of s p Ev x lt refl
+loose_of s p Gv x lt e = full_of s p Gv x lt refl
+loose_of s p M x lt e = full_of s p M x lt refl
+loose_of s p Iv x lt e = full_of s p Iv x lt refl
+loose_of s p Is x lt e = full_of s p Is x lt refl
+loose_of s p Ov x lt e = full_of s p Ov x lt refl
+loose_of s p Rv x lt e = full_of s p Rv x lt refl
+loose_of s p Ax x lt e = full_of s p Ax x lt refl
+loose_of s p _ x lt e = absurd cc
+
+word_number_of : (s : Setting) (p : Place) (f : Form) (x : ℕ) → x < 256 ^ own_len s f → is_word_number f ≡ true → IsOf B2 (operand s p f x)
+word_number_of s p No x lt e = tt
+word_number_of s p Iw x lt e = (refl, omega (arith, lt))
+word_number_of s p _ x lt e = absurd cc
+
 unspecial_form : (s : Setting) (p : Place) (f : Form) (x : ℕ) → not (is_special (operand s p f x)) ≡ true → not (is_special_form f) ≡ true
 unspecial_form s p Cd x e = absurd cc
 unspecial_form s p Dd x e = absurd cc
 unspecial_form s p _ x e = refl
 
 -- ---- the operands of MOV
-
-abbrev is_segment : Operand → Bool
-is_segment (Sreg seg) = true
-is_segment _ = false
 
 e_segment : (p : Place) (size : Size) → is_segment (e_operand p size) ≡ false
 e_segment p size = elim (mod_of p.modrm == 3) as (λ v. is_segment (cond v (Gpr (rm_of p.modrm) size) (At p.mem size)) ≡ false) [ true ↦ refl | false ↦ refl ]
@@ -335,7 +386,23 @@ module _ (s : Setting) (p : Place) (x y z : ℕ) (k : Kind) (a b c : Form)
       let parts = and_parts (nat_lt number 16) (is_byte a) e in
       (below number 16 parts.0, byte_of s p a x x_below parts.1)
 
-  ruleset parts = (rules, alike, counted, within, widened, scanned, doubled, set, byte_of)
+  pushed : (w : Width) → (is_wide w && is_loose a) ≡ true → IsOf (size_of s w) (operand s p a x)
+  pushed Byte e = absurd cc
+  pushed Full e = loose_of s p a x x_below e
+  pushed Four e = absurd cc
+
+  popped : (w : Width) → (is_wide w && is_loose a) ≡ true → (size_of s w ≢ B1) × IsOf (size_of s w) (operand s p a x)
+  popped w e = (widened w (and_parts (is_wide w) (is_loose a) e).0, pushed w e)
+
+  entered : (is_word_number a && is_byte b) ≡ true → IsOf B2 (operand s p a x) × IsOf B1 (operand s p b y)
+  entered e =
+      let parts = and_parts (is_word_number a) (is_byte b) e in
+      (word_number_of s p a x x_below parts.0, byte_of s p b y y_below parts.1)
+
+  returned : is_word_number a ≡ true → IsOf B2 (operand s p a x)
+  returned e = word_number_of s p a x x_below e
+
+  ruleset parts = (rules, alike, counted, within, widened, scanned, doubled, set, byte_of, pushed, popped, entered, returned)
 
   formed : (op : Op) (w : Width) → are_formed op w a b c ≡ true → IsFormedAs op (insn_of s (record { op = op; width = w; kind = k; a = a; b = b; c = c }) p x y z)
   formed ops.Mov w e = moved w e
@@ -353,7 +420,7 @@ any_of false false c false e f g h = g h
 all_of : {a b c : Bool} → a ≡ true → b ≡ true → c ≡ true → (a && b && c) ≡ true
 all_of a b c = cc
 
-pop_of_segment : (op : Op) (a : Operand) → is_segment_pop op a ≡ true → is_pop op ≡ true
+pop_of_segment : (op : Op) (a : Operand) → is_segment_pop op a ≡ true → is_flow op ≡ true
 pop_of_segment ops.Pop a e = refl
 pop_of_segment _ a e = absurd cc
 
@@ -362,10 +429,18 @@ data_row s r p x y z =
     let a = operand s p r.a x in
     let b = operand s p r.b y in
     any_of (is_data r.op && not (is_special a) && not (is_special b)) (is_address r.op) (is_segment_pop r.op a)
-    (is_data r.op && not (is_special_form r.a) && not (is_special_form r.b)) (is_pop r.op)
+    (is_data r.op && not (is_special_form r.a) && not (is_special_form r.b)) (is_flow r.op)
     (λ e. let parts = three_parts (is_data r.op) (not (is_special a)) (not (is_special b)) e in
     all_of parts.0 (unspecial_form s p r.a x parts.1) (unspecial_form s p r.b y parts.2))
     (λ e. pop_of_segment r.op a e)
+
+last_of : (a b c : Bool) → c ≡ true → (a || b || c) ≡ true
+last_of true b c e = refl
+last_of false true c e = refl
+last_of false false c e = e
+
+flow_row : (s : Setting) (r : Row) (p : Place) (x y z : ℕ) → runs_flow (insn_of s r p x y z) ≡ true → may_run r ≡ true
+flow_row s r p x y z e = last_of (is_data r.op && not (is_special_form r.a) && not (is_special_form r.b)) (is_address r.op) (is_flow r.op) (and_parts (is_flow r.op) _ e).0
 
 tested_forms : (r : Row) → is_formed r ≡ true → may_run r ≡ true → are_formed r.op r.width r.a r.b r.c ≡ true
 tested_forms r e may = elim (may_run r) as (λ v. v ≡ true → (not v || are_formed r.op r.width r.a r.b r.c) ≡ true → are_formed r.op r.width r.a r.b r.c ≡ true) [
@@ -373,7 +448,7 @@ tested_forms r e may = elim (may_run r) as (λ v. v ≡ true → (not v || are_f
   | false ↦ λ h _. absurd cc
 ] may e
 
-spelt_row_formed : (s : Setting) (bytes : List ℕ) (insn : Insn) → s.size ≢ B1 → IsBytes bytes → (q : SpeltRow s bytes insn) → is_formed q.row ≡ true → runs_data insn ≡ true → IsFormed insn
+spelt_row_formed : (s : Setting) (bytes : List ℕ) (insn : Insn) → s.size ≢ B1 → IsBytes bytes → (q : SpeltRow s bytes insn) → is_formed q.row ≡ true → (runs_data insn ≡ true) ⊎ (runs_flow insn ≡ true) → IsFormed insn
 spelt_row_formed s bytes insn wide fit q tested runs =
     let r = q.row in
     let p : Place = place s (little (opcode_last q.opcode)) (little q.modrm) (little q.sib) (little q.disp) in
@@ -385,15 +460,25 @@ spelt_row_formed s bytes insn wide fit q tested runs =
     let x_below = little_below q.x (q.y ++ q.z) (own_len s r.a) q.x_length x_fit in
     let y_below = little_below q.y q.z (own_len s r.b) q.y_length y_fit in
     let z_below = little_below q.z [] (own_len s r.c) q.z_length (subst (λ (k : List ℕ). IsBytes k) (sym (append-nil q.z)) z_fit) in
-    let may : may_run r ≡ true = data_row s r p (little q.x) (little q.y) (little q.z) (subst (λ (k : Insn). runs_data k ≡ true) q.insn_is runs) in
+    let may : may_run r ≡ true = elim runs [
+      | inl e ↦ data_row s r p (little q.x) (little q.y) (little q.z) (subst (λ (k : Insn). runs_data k ≡ true) q.insn_is e)
+      | inr e ↦ flow_row s r p (little q.x) (little q.y) (little q.z) (subst (λ (k : Insn). runs_flow k ≡ true) q.insn_is e)
+    ] in
     let all : IsFormed i = formed s p (little q.x) (little q.y) (little q.z) r.kind r.a r.b r.c wide x_below y_below z_below r.op r.width (tested_forms r tested may) in
     subst (λ (k : Insn). IsFormed k) (sym q.insn_is) all
 
--- what some bytes spell, where it is a data instruction, is formed as its mnemonic asks
-pub spelt_formed : (bytes : List ℕ) (big : Bool) (insn : Insn) → Spelt bytes big insn → runs_data insn ≡ true → IsFormed insn
-spelt_formed bytes big insn h runs =
+either_formed : (bytes : List ℕ) (big : Bool) (insn : Insn) → Spelt bytes big insn → (runs_data insn ≡ true) ⊎ (runs_flow insn ≡ true) → IsFormed insn
+either_formed bytes big insn h runs =
     let rest : IsBytes h.rest = fit_back h.prefixes h.rest (subst (λ (z : List ℕ). IsBytes z) h.whole h.bytes_fit) in
     spelt_row_formed (setting big h.prefixes) h.rest insn (setting_size big h.prefixes) rest h.row (row_formed h) runs
+
+-- what some bytes spell, where it is a data instruction, is formed as its mnemonic asks
+pub spelt_formed : (bytes : List ℕ) (big : Bool) (insn : Insn) → Spelt bytes big insn → runs_data insn ≡ true → IsFormed insn
+spelt_formed bytes big insn h runs = either_formed bytes big insn h (inl runs)
+
+-- and so is one of flow, stack and flags
+pub spelt_flow : (bytes : List ℕ) (big : Bool) (insn : Insn) → Spelt bytes big insn → runs_flow insn ≡ true → IsFormed insn
+spelt_flow bytes big insn h runs = either_formed bytes big insn h (inr runs)
 
 -- ---- plain operands
 
@@ -412,4 +497,4 @@ plain_runs insn e =
     let first = and_parts (is_data insn.op) (is_plain insn.a) parts.0 in
     first_of (is_address insn.op) (is_segment_pop insn.op insn.a) first.0 (unspecial insn.a first.1) (unspecial insn.b parts.1)
 
-pub ruleset forms = (spelt_formed, plain_runs)
+pub ruleset forms = (spelt_formed, spelt_flow, plain_runs)

@@ -1,3 +1,5 @@
 pub mod RowTests
 pub mod FormLaws
+pub mod Unpaged
 pub mod FaultLaws
+pub mod EffectLaws

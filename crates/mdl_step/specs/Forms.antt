@@ -1,4 +1,4 @@
--- The sizes and numbers of the operands of data instructions, as the opcode rows give them.
+-- The sizes and numbers of the operands of instructions, as the opcode rows give them.
 use Rattle.std.specs.Prelude.{◌≡◌, ◌≢◌, ◌<◌, ◌≤◌, ⊤}
 use Rattle.mdl_state.specs.declared.Size.{Size}
 use Rattle.mdl_state.specs.declared.Size.TheVariants.{B1, B2}
@@ -29,7 +29,7 @@ IsMove (Sreg seg) b size = IsOf B2 b
 IsMove a (Sreg seg) size = IsOf B2 a
 IsMove a b size = IsOf size a × IsOf size b
 
--- the operands of a data instruction of a mnemonic
+-- the operands of an instruction of a mnemonic
 abbrev pub IsFormedAs : Op → Insn → Type 0
 IsFormedAs ops.Mov insn = IsMove insn.a insn.b insn.size
 IsFormedAs ops.Movzx insn = IsOf insn.size insn.a × IsWithin insn.size insn.b
@@ -79,7 +79,12 @@ IsFormedAs ops.Lss insn = (insn.size ≢ B1) × IsOf insn.size insn.a × IsOf in
 IsFormedAs ops.Lfs insn = (insn.size ≢ B1) × IsOf insn.size insn.a × IsOf insn.size insn.b
 IsFormedAs ops.Lgs insn = (insn.size ≢ B1) × IsOf insn.size insn.a × IsOf insn.size insn.b
 IsFormedAs ops.Bound insn = (insn.size ≢ B1) × IsOf insn.size insn.a × IsOf insn.size insn.b
-IsFormedAs ops.Pop insn = insn.size ≢ B1
+IsFormedAs ops.Push insn = IsOf insn.size insn.a
+IsFormedAs ops.Pop insn = (insn.size ≢ B1) × IsOf insn.size insn.a
+IsFormedAs ops.Jmp insn = IsOf insn.size insn.a
+IsFormedAs ops.Call insn = IsOf insn.size insn.a
+IsFormedAs ops.Ret insn = IsOf B2 insn.a
+IsFormedAs ops.Enter insn = IsOf B2 insn.a × IsOf B1 insn.b
 IsFormedAs _ insn = ⊤
 
 abbrev pub IsFormed : Insn → Type 0

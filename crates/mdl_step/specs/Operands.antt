@@ -1,7 +1,7 @@
 -- Operands of instructions, as plans read and write them. Manual, chapter 17.
 use Rattle.std.specs.Prelude.{ℕ, Bool, true, false, if◌then◌else◌}
 use Rattle.mdl_state.specs.declared.Size.{Size}
-use Rattle.mdl_state.specs.declared.Size.TheVariants.{B1}
+use Rattle.mdl_state.specs.declared.Size.TheVariants.{B1, B2, B4}
 use Rattle.mdl_state.specs.declared.Seg.{Seg}
 use Rattle.mdl_state.specs.declared.Access.TheVariants.{Write}
 use Rattle.mdl_state.specs.declared.Regs.{Regs}
@@ -12,7 +12,7 @@ use Rattle.mdl_state.specs.Attempt.{Plan, Done, Fail, Load, Store, Translate, Ge
 use Rattle.mdl_num.specs.declared.status.Status.{Status}
 use Rattle.mdl_num.specs.Flags.{flags_after}
 use Rattle.mdl_insn.specs.declared.instruction.Operand.{Operand}
-use Rattle.mdl_insn.specs.declared.instruction.Operand.TheVariants.{Nothing, Gpr, Imm, At}
+use Rattle.mdl_insn.specs.declared.instruction.Operand.TheVariants.{Nothing, Gpr, Sreg, Imm, At}
 use Rattle.mdl_cpu.specs.Addresses.{offset_of}
 use Rattle.mdl_cpu.specs.Segments.{who_of}
 use Rattle.mdl_cpu.specs.Access.{legal}
@@ -41,6 +41,11 @@ abbrev pub is_nothing : Operand → Bool
 is_nothing Nothing = true
 is_nothing _ = false
 
+-- a segment register
+abbrev pub is_segment : Operand → Bool
+is_segment (Sreg seg) = true
+is_segment _ = false
+
 abbrev pub size_of : Operand → Size
 size_of (Gpr n size) = size
 size_of (Imm value size) = size
@@ -52,6 +57,14 @@ abbrev pub value_of : Regs → Operand → ℕ
 value_of r (Gpr n size) = reg_of r n size
 value_of r (Imm value size) = value
 value_of r _ = 0
+
+-- the size of a count and of an index, by the address size
+abbrev pub address_size : Bool → Size
+address_size wide = if wide then B4 else B2
+
+-- DF, by which strings go downwards
+abbrev pub DF : ℕ
+DF = 10
 
 -- a register set
 abbrev pub with_value : Regs → Operand → ℕ → Regs

@@ -1,43 +1,33 @@
 -- One step of the machine, as far as it is built. Manual, chapters 9 and 10.
-use Rattle.std.specs.Prelude.{◌≡◌, ◌≤◌, ℕ, zero, suc, ◌+◌, ◌%◌, ◌^◌, ◌==◌, ◌&&◌, not, Bool, false, List, [], ◌∷◌, IsTrue}
+use Rattle.std.specs.Prelude.{◌≡◌, ◌≤◌, ℕ, ◌+◌, ◌%◌, ◌^◌, ◌==◌, ◌&&◌, not, Bool, false, List, [], IsTrue}
 use Rattle.mdl_state.specs.declared.Regs.{Regs}
 use Rattle.mdl_state.specs.declared.Seg.TheVariants.{Cs}
 use Rattle.mdl_state.specs.declared.Activity.{Activity}
 use Rattle.mdl_state.specs.declared.Activity.TheVariants.{Running, Halted}
 use Rattle.mdl_state.specs.declared.Next.{Next}
 use Rattle.mdl_state.specs.declared.Next.TheVariants as next
-use Rattle.mdl_state.specs.State.{Physical, Core, State, Choice}
+use Rattle.mdl_state.specs.State.{Physical, Mem, Core, State, Choice}
 use Rattle.mdl_state.specs.Bytes.{bit}
 use Rattle.mdl_state.specs.Memory.{byte_at}
 use Rattle.mdl_state.specs.Registers.{seg_of}
 use Rattle.mdl_state.specs.Serving.{Policy, Passed, by_list, with_items}
-use Rattle.mdl_state.specs.Attempt.{attempt}
+use Rattle.mdl_state.specs.Attempt.{tried, attempt}
 use Rattle.mdl_insn.specs.declared.instruction.Insn.{Insn}
 use Rattle.mdl_insn.specs.Spelling.{Spelt}
 use Rattle.mdl_step.specs.Operands.{After}
 use Rattle.mdl_step.specs.Effects.{effect, is_built}
+use Rattle.mdl_step.specs.Fetching.{fetch_plan}
 use Rattle.mdl_step.specs.Boundary.{Boundary, Idle, Execute, Deliver, boundary}
 
 -- ---- the instruction
 
--- real mode, and no debugging: PE, TF and RF are 0, and no breakpoint is enabled
+-- Real mode, and neither interrupts nor debugging: PE, TF, IF and RF are 0, and no breakpoint is enabled.
 abbrev pub is_plain_mode : Regs → Bool
-is_plain_mode r = not (bit r.cr0 0) && not (bit r.eflags 8) && not (bit r.eflags 16) && r.dr7 % 0x100 == 0
+is_plain_mode r = not (bit r.cr0 0) && not (bit r.eflags 8) && not (bit r.eflags 9) && not (bit r.eflags 16) && r.dr7 % 0x100 == 0
 
 -- byte n of the code at CS:EIP, by a linear address modulo 2^32
 unfoldable pub code_byte : Physical → Regs → ℕ → ℕ
 code_byte physical r n = byte_at physical (((seg_of r Cs).base + r.eip + n) % 2 ^ 32)
-
--- so many bytes of the code at CS:EIP, from byte n on
-abbrev pub code_bytes : Physical → Regs → ℕ → ℕ → List ℕ
-code_bytes physical r n zero = []
-code_bytes physical r n (suc count) = code_byte physical r n ∷ code_bytes physical r (n + 1) count
-
--- an instruction of so many bytes stands at CS:EIP, and ends at offset FFFFh or before
-pub record StandsAt (physical : Physical) (r : Regs) (insn : Insn) (count : ℕ) : Type 0 where
-  pub within : count ≤ 15
-  pub inside : r.eip + count ≤ 0x10000
-  pub spelt : Spelt (code_bytes physical r 0 count) false insn
 
 -- EIP behind an instruction. Own: EIP is not cut.
 abbrev pub behind : Regs → ℕ → ℕ
@@ -45,38 +35,50 @@ behind r count = (r.eip + count) % 2 ^ 32
 
 -- ---- what it leaves
 
+-- EIP goes behind the instruction, unless that set it or goes on
 abbrev pub landed : Next → Regs → ℕ → Regs
 landed next.Landed r back = r
+landed next.Again r back = r
 landed _ r back = record r { eip = back }
 
 abbrev pub activity_after : Next → Activity
 activity_after next.Halt = Halted
 activity_after _ = Running
 
+-- what is held back for the next instruction: 1 every interrupt and debug trap, 2 the interrupt line
+abbrev pub hold_after : Next → ℕ
+hold_after next.HoldAll = 1
+hold_after next.HoldIntr = 2
+hold_after _ = 0
+
 -- one step more
 abbrev pub counted : Core → Core
 counted core = record core { steps = core.steps + 1 }
 
--- the processor behind an instruction; what was held back for it is so no longer
+-- the processor behind an instruction
 abbrev pub completed : Core → After → ℕ → Core
 completed core after back = record (counted core) {
   regs = landed after.next after.regs back;
   activity = activity_after after.next;
-  latches = record core.latches { hold = 0 };
+  latches = record core.latches { hold = hold_after after.next };
 }
 
 -- ---- the step
 
--- An instruction that is built stands at CS:EIP. All of what it does passes, for this choice of
--- undefined flags and by these items, which are used in order and wholly.
+-- The bytes at CS:EIP are fetched, and spell an instruction that is built. All of what it does passes,
+-- for this choice of undefined flags. The items serve the bytes and then what it does, in order and wholly.
 pub record Executes (policy : Policy) (s : State) (choice : Choice) (t : State) : Type 0 where
   pub insn : Insn
   pub count : ℕ
+  pub bytes : List ℕ
+  pub mid : Mem
   pub mode : IsTrue (is_plain_mode s.core.regs)
-  pub stands : StandsAt s.mem.physical s.core.regs insn count
+  pub within : count ≤ 15
+  pub fetched : tried (by_list policy) 0 (fetch_plan s.core.regs count) (with_items s.mem choice.served) ≡ (Passed bytes, mid)
+  pub spelt : Spelt bytes false insn
   pub built : IsTrue (is_built insn)
   pub after : After
-  pub passed : attempt (by_list policy) 0 (effect insn s.core.regs (behind s.core.regs count) choice.flags) (with_items s.mem choice.served) ≡ (Passed after, t.mem)
+  pub passed : attempt (by_list policy) 0 (effect insn s.core.regs (behind s.core.regs count) choice.flags) mid ≡ (Passed after, t.mem)
   pub wholly : t.mem.served ≡ []
   pub core : t.core ≡ completed s.core after (behind s.core.regs count)
 

@@ -1,0 +1,88 @@
+-- What an instruction does, by the family of its mnemonic.
+use Rattle.std.proofs.Common.{◌≡◌, ℕ, ◌&&◌, Bool, true, false, refl}
+use Rattle.std.specs.Prelude.{not}
+use Rattle.std.proofs.lemmas.Bool.{false≢true}
+use Rattle.mdl_state.specs.declared.Regs.{Regs}
+use Rattle.mdl_insn.specs.declared.instruction.Insn.{Insn}
+use Rattle.mdl_insn.specs.declared.instruction.Operand.{Operand}
+use Rattle.mdl_insn.specs.declared.instruction.Operand.TheVariants.{Sreg, Far}
+use Rattle.mdl_insn.specs.declared.mnemonics.Op.{Op}
+use Rattle.mdl_insn.specs.declared.mnemonics.Op.TheVariants as ops
+use Rattle.mdl_step.specs.Operands.{is_segment}
+use Rattle.mdl_step.specs.DataEffects.{is_data, is_address, is_segment_pop, runs_data, data_effect}
+use Rattle.mdl_step.specs.StringEffects.{string_plan}
+use Rattle.mdl_step.specs.FarEffects.{far_jump_plan}
+use Rattle.mdl_step.specs.Effects.{is_flow, is_pop, runs_flow, flow_effect, runs_string, is_far_jump, is_halt, halt_plan, is_built, effect}
+
+-- what an instruction is of: none of the data mnemonics, none of the address ones, no POP of a segment register
+abbrev IsNoData : Op → Operand → Type 0
+IsNoData op a = (is_data op ≡ false) × (is_address op ≡ false) × (is_segment_pop op a ≡ false)
+
+no_data : (insn : Insn) → IsNoData insn.op insn.a → runs_data insn ≡ false
+no_data insn e = rw (e.0, e.1, e.2) refl
+
+pop_no_data : (a : Operand) → not (is_segment a) ≡ true → IsNoData ops.Pop a
+pop_no_data (Sreg seg) e = absurd (false≢true e)
+pop_no_data _ e = (refl, refl, refl)
+
+flow_no_data : (op : Op) (a : Operand) → (is_flow op && not (is_pop op && is_segment a)) ≡ true → IsNoData op a
+flow_no_data ops.Jmp a e = (refl, refl, refl)
+flow_no_data (ops.Jcc number) a e = (refl, refl, refl)
+flow_no_data ops.Call a e = (refl, refl, refl)
+flow_no_data ops.Ret a e = (refl, refl, refl)
+flow_no_data ops.Loop a e = (refl, refl, refl)
+flow_no_data ops.Loope a e = (refl, refl, refl)
+flow_no_data ops.Loopne a e = (refl, refl, refl)
+flow_no_data ops.Jcxz a e = (refl, refl, refl)
+flow_no_data ops.Push a e = (refl, refl, refl)
+flow_no_data ops.Pop a e = pop_no_data a e
+flow_no_data ops.Pusha a e = (refl, refl, refl)
+flow_no_data ops.Popa a e = (refl, refl, refl)
+flow_no_data ops.Enter a e = (refl, refl, refl)
+flow_no_data ops.Leave a e = (refl, refl, refl)
+flow_no_data ops.Clc a e = (refl, refl, refl)
+flow_no_data ops.Stc a e = (refl, refl, refl)
+flow_no_data ops.Cmc a e = (refl, refl, refl)
+flow_no_data ops.Cld a e = (refl, refl, refl)
+flow_no_data ops.Std a e = (refl, refl, refl)
+flow_no_data ops.Lahf a e = (refl, refl, refl)
+flow_no_data ops.Sahf a e = (refl, refl, refl)
+flow_no_data _ a e = absurd (false≢true e)
+
+string_only : (op : Op) (a : Operand) → runs_string op ≡ true → IsNoData op a × (is_flow op ≡ false)
+string_only ops.Movs a e = ((refl, refl, refl), refl)
+string_only ops.Cmps a e = ((refl, refl, refl), refl)
+string_only ops.Stos a e = ((refl, refl, refl), refl)
+string_only ops.Lods a e = ((refl, refl, refl), refl)
+string_only ops.Scas a e = ((refl, refl, refl), refl)
+string_only _ a e = absurd (false≢true e)
+
+far_only : (op : Op) (a : Operand) → is_far_jump op a ≡ true → IsNoData op a × (is_flow op ≡ false) × (runs_string op ≡ false)
+far_only ops.Jmpf a e = ((refl, refl, refl), refl, refl)
+far_only _ a e = absurd (false≢true e)
+
+halt_only : (op : Op) (a : Operand) → is_halt op ≡ true → IsNoData op a × (is_flow op ≡ false) × (runs_string op ≡ false) × (is_far_jump op a ≡ false)
+halt_only ops.Hlt a e = ((refl, refl, refl), refl, refl, refl)
+halt_only _ a e = absurd (false≢true e)
+
+pub effect_data : (insn : Insn) (r : Regs) (back free : ℕ) → runs_data insn ≡ true → effect insn r back free ≡ data_effect insn r free
+unfolding effect
+effect_data insn r back free e = rw e refl
+
+pub effect_flow : (insn : Insn) (r : Regs) (back free : ℕ) → runs_flow insn ≡ true → effect insn r back free ≡ flow_effect insn r back
+unfolding effect
+effect_flow insn r back free e = rw (no_data insn (flow_no_data insn.op insn.a e), e) refl
+
+pub effect_string : (insn : Insn) (r : Regs) (back free : ℕ) → runs_string insn.op ≡ true → effect insn r back free ≡ string_plan insn r free
+unfolding effect
+effect_string insn r back free e = let only = string_only insn.op insn.a e in rw (no_data insn only.0, only.1, e) refl
+
+pub effect_far : (insn : Insn) (r : Regs) (back free : ℕ) → is_far_jump insn.op insn.a ≡ true → effect insn r back free ≡ far_jump_plan insn r
+unfolding effect
+effect_far insn r back free e = let only = far_only insn.op insn.a e in rw (no_data insn only.0, only.1, only.2, e) refl
+
+pub effect_halt : (insn : Insn) (r : Regs) (back free : ℕ) → is_halt insn.op ≡ true → effect insn r back free ≡ halt_plan r
+unfolding effect
+effect_halt insn r back free e = let only = halt_only insn.op insn.a e in rw (no_data insn only.0, only.1, only.2, only.3, e) refl
+
+pub ruleset effects = (effect_data, effect_flow, effect_string, effect_far, effect_halt)
