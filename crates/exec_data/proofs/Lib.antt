@@ -1,9 +1,7 @@
-pub mod Statuses
 pub mod Logic
 pub mod Extensions
 pub mod Quotients
 pub mod Attempts
-pub mod Modes
 pub mod PlaceLaws
 pub mod Loads
 pub mod Readings

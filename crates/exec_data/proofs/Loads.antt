@@ -9,7 +9,7 @@ use Rattle.mdl_state.specs.Registers.{seg_of}
 use Rattle.mdl_state.specs.Serving.{Serve, Outcome, Passed, Failed, NoStep}
 use Rattle.mdl_state.specs.Attempt.{tried}
 use Rattle.mdl_cpu.specs.Loads.{load_plan, with_selector, answered}
-use Rattle.exec_data.specs.Whole.{whole}
+use Rattle.operands.specs.Whole.{whole}
 
 packed : ℕ → Outcome Regs × Mem → Outcome Regs × Mem
 packed F (Passed r, m) = (Passed (whole r F), m)

@@ -1,4 +1,3 @@
-pub mod Whole
-pub mod Memory
+pub mod Failing
 pub mod Places
 pub mod Reads

@@ -1,16 +1,9 @@
 -- Which operands of a data instruction are never memory. Manual, chapter 17.
 use Rattle.std.specs.Prelude.{◌&&◌, ◌||◌, Bool, true, false}
 use Rattle.mdl_insn.specs.declared.instruction.Insn.{Insn}
-use Rattle.mdl_insn.specs.declared.instruction.Operand.{Operand}
-use Rattle.mdl_insn.specs.declared.instruction.Operand.TheVariants.{Sreg}
 use Rattle.mdl_insn.specs.declared.mnemonics.Op.{Op}
 use Rattle.mdl_insn.specs.declared.mnemonics.Op.TheVariants as ops
 use Rattle.mdl_step.specs.Operands.{is_plain, is_nothing}
-
--- a segment register
-abbrev pub is_segment : Operand → Bool
-is_segment (Sreg seg) = true
-is_segment _ = false
 
 -- of a mnemonic whose first operand is plain or not, its second is, and its second is nothing or not
 abbrev pub placed : Op → Bool → Bool → Bool → Bool

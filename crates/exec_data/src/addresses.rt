@@ -1,39 +1,24 @@
 //! LEA and XLAT.
 
-ghost use Rattle.std.specs.Prelude.{◌≡◌, ◌<◌, ◌+◌, ◌%◌, ◌^◌, ℕ, Some, OnErr};
+ghost use Rattle.std.specs.Prelude.{◌≡◌, ◌<◌, ◌+◌, ◌%◌, ℕ, Some, OnErr};
 ghost use Rattle.mdl_state.specs.declared.Size.TheVariants.{B1};
 ghost use Rattle.mdl_state.specs.Registers.{reg_of};
 ghost use Rattle.mdl_state.specs.Serving.{by_pick};
 ghost use Rattle.mdl_state.specs.Accesses.{Keeps};
 ghost use Rattle.mdl_state.specs.Attempt.{tried};
 ghost use Rattle.mdl_cpu.specs.Addresses.{part_of, offset_bound, HasAddress};
-ghost use Rattle.mdl_step.specs.DataEffects.{lea_plan, xlat_plan};
+ghost use Rattle.mdl_step.specs.Moves.{lea_plan, xlat_plan};
 ghost use Rattle.mdl_step.specs.Forms.{IsOf};
-ghost use Rattle.exec_data.specs.Whole.{whole, after, KeepsOther};
+ghost use Rattle.operands.specs.Whole.{whole, after, KeepsOther};
 
-use crate::memory::{load, no_such, offset};
-use crate::registers::{ACCUMULATOR, reg, set, set_reg};
 use mdl_insn::{Insn, Operand};
 use mdl_num::low;
 use mdl_state::{Fault, Regs, Seg, Size};
 use mem_iface::Linear;
-
-/// The number of BX and EBX.
-const BASE: usize = 3;
-
-/// An offset modulo the address size.
-pub(crate) fn cut(offset: u64, wide: bool) -> u32
-    ensures { result ≡ offset % offset_bound wide }
-{
-    if wide {
-        (offset % 0x1_0000_0000) as u32
-    } else {
-        (offset % 0x1_0000) as u32
-    }
-}
+use operands::{ACCUMULATOR, BASE, cut, load, no_such, offset, reg, set, set_reg};
 
 /// LEA. Nothing is checked.
-#[tactic(auto, unfolding(mdl_step::specs::DataEffects::lea_plan))]
+#[tactic(auto, unfolding(mdl_step::specs::Moves::lea_plan))]
 pub(crate) fn load_address<L: Linear>(
     regs: &mut Regs,
     lin: &mut L,
@@ -63,11 +48,11 @@ fn table_offset(regs: &Regs, wide: bool) -> u32
         ≡ (part_of (whole regs.now flags) (Some 3) + reg_of (whole regs.now flags) 0 B1) % offset_bound wide }
 {
     let index = reg(regs, ACCUMULATOR, Size::B1);
-    cut(regs.gpr[BASE] as u64 + index as u64, wide)
+    cut(regs.gpr[BASE as usize] as u64 + index as u64, wide)
 }
 
 /// XLAT.
-#[tactic(auto, using(mdl_state::specs::Rules::attempts), unfolding(mdl_step::specs::DataEffects::xlat_plan))]
+#[tactic(auto, using(mdl_state::specs::Rules::attempts), unfolding(mdl_step::specs::Moves::xlat_plan))]
 pub(crate) fn translate_byte<L: Linear>(
     regs: &mut Regs,
     lin: &mut L,

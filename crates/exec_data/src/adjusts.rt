@@ -4,20 +4,19 @@ ghost use Rattle.std.specs.Prelude.{◌≡◌, ◌<◌, ◌^◌, IfErr, OnErr};
 ghost use Rattle.mdl_state.specs.declared.Size.TheVariants.{B1};
 ghost use Rattle.mdl_num.specs.Flags.{flags_after};
 ghost use Rattle.mdl_step.specs.Operands.{follow};
-ghost use Rattle.mdl_step.specs.DataEffects.{divide_error, adjust, adjust_plan, digits_plan, from_digits_plan};
-ghost use Rattle.exec_data.specs.Whole.{whole, done, IsPlainOf, KeepsOther};
+ghost use Rattle.mdl_step.specs.Arithmetic.{divide_error, adjust, adjust_plan, digits_plan, from_digits_plan};
+ghost use Rattle.operands.specs.Whole.{whole, done, IsPlainOf, KeepsOther};
 
-use crate::kept::keep;
 use crate::products::divide_error;
-use crate::registers::{ACCUMULATOR, reg, set_reg, value};
 use alu_ops::{aaa, aad, aam, aas, daa, das};
 use lazy_flags::Flags;
 use mdl_insn::{Insn, Op};
 use mdl_num::{Alu, DivideError};
 use mdl_state::{Fault, Regs, Size};
+use operands::{ACCUMULATOR, keep, reg, set_reg, value};
 
 /// AX adjusted as the mnemonic says.
-#[tactic(auto, using(crate::proofs::Statuses::statuses))]
+#[tactic(auto, using(operands::proofs::Statuses::statuses))]
 fn adjusted(op: Op, ax: u32, flags: u32) -> Alu
     requires { ax < 2 ^ 16 }
     ensures value { result.value ≡ (adjust op ax flags).value }
@@ -34,7 +33,7 @@ fn adjusted(op: Op, ax: u32, flags: u32) -> Alu
 }
 
 /// DAA, DAS, AAA and AAS.
-#[tactic(auto, unfolding(mdl_step::specs::DataEffects::adjust_plan))]
+#[tactic(auto, unfolding(mdl_step::specs::Arithmetic::adjust_plan))]
 pub(crate) fn adjust(regs: &mut Regs, flags: &mut Flags, insn: &Insn)
     ensures plan { follow (whole regs.new flags.new)
         ≡ adjust_plan insn.now (whole regs.old flags.old) (whole regs.new flags.new).eflags }
@@ -47,7 +46,7 @@ pub(crate) fn adjust(regs: &mut Regs, flags: &mut Flags, insn: &Insn)
 }
 
 /// AAM.
-#[tactic(auto, unfolding(mdl_step::specs::DataEffects::digits_plan))]
+#[tactic(auto, unfolding(mdl_step::specs::Arithmetic::digits_plan))]
 pub(crate) fn digits(regs: &mut Regs, flags: &mut Flags, insn: &Insn) -> Result<(), Fault>
     requires { IsPlainOf B1 insn.now.a }
     ensures plan { done result (whole regs.new flags.new)
@@ -69,7 +68,7 @@ pub(crate) fn digits(regs: &mut Regs, flags: &mut Flags, insn: &Insn) -> Result<
 }
 
 /// AAD.
-#[tactic(auto, unfolding(mdl_step::specs::DataEffects::from_digits_plan))]
+#[tactic(auto, unfolding(mdl_step::specs::Arithmetic::from_digits_plan))]
 pub(crate) fn from_digits(regs: &mut Regs, flags: &mut Flags, insn: &Insn)
     requires { IsPlainOf B1 insn.now.a }
     ensures plan { follow (whole regs.new flags.new)

@@ -9,17 +9,16 @@ ghost use Rattle.mdl_num.specs.Flags.{flags_after};
 ghost use Rattle.mdl_num.specs.Sums.{sum_value, difference_value, logic_value, logic_status};
 ghost use Rattle.lazy_flags.specs.Keeper.{with_status};
 ghost use Rattle.mdl_step.specs.Operands.{follow};
-ghost use Rattle.mdl_step.specs.DataEffects.{binary, unary, binary_plan, compare_plan, unary_plan};
-ghost use Rattle.exec_data.specs.Whole.{whole, after, IsPlainOf, KeepsOther};
-ghost use Rattle.exec_data.specs.Memory.{IsMemoryOf};
+ghost use Rattle.mdl_step.specs.Arithmetic.{binary, unary, binary_plan, compare_plan, unary_plan};
+ghost use Rattle.operands.specs.Whole.{whole, after, IsPlainOf, KeepsOther};
+ghost use Rattle.operands.specs.Memory.{IsMemoryOf};
 
-use crate::memory::open;
-use crate::registers::{set, value};
 use lazy_flags::{FlagOp, Flags};
 use mdl_insn::{Insn, Op};
 use mdl_num::{CF, LogicOp, bound, low};
 use mdl_state::{Fault, Regs, Size};
 use mem_iface::Linear;
+use operands::{open, set, value};
 
 /// The value of a sum.
 #[tactic(auto, unfolding(mdl_num::specs::Sums::sum_value))]
@@ -53,7 +52,7 @@ fn bitwise(op: LogicOp, a: u32, b: u32) -> u32
 }
 
 /// AND, OR and XOR.
-#[tactic(auto, using(crate::proofs::Statuses::statuses, crate::proofs::Logic::bounds))]
+#[tactic(auto, using(operands::proofs::Statuses::statuses, crate::proofs::Logic::bounds))]
 fn logic(op: LogicOp, a: u32, b: u32, size: Size, flags: &mut Flags) -> u32
     requires a { a < bound_of size }
     requires b { b < bound_of size }
@@ -68,7 +67,7 @@ fn logic(op: LogicOp, a: u32, b: u32, size: Size, flags: &mut Flags) -> u32
 }
 
 /// An operation on two operands: its value, with the flags that it leaves.
-#[tactic(auto, using(crate::proofs::Statuses::statuses))]
+#[tactic(auto, using(operands::proofs::Statuses::statuses))]
 fn binary(op: Op, size: Size, a: u32, b: u32, flags: &mut Flags) -> u32
     requires a { a < bound_of size }
     requires b { b < bound_of size }
@@ -104,7 +103,7 @@ fn binary(op: Op, size: Size, a: u32, b: u32, flags: &mut Flags) -> u32
 }
 
 /// An operation on one operand: its value, with the flags that it leaves.
-#[tactic(auto, using(crate::proofs::Statuses::statuses))]
+#[tactic(auto, using(operands::proofs::Statuses::statuses))]
 fn unary(op: Op, size: Size, a: u32, flags: &mut Flags) -> u32
     requires { a < bound_of size }
     ensures value { result ≡ (unary op size a).value }
@@ -131,7 +130,7 @@ fn unary(op: Op, size: Size, a: u32, flags: &mut Flags) -> u32
 }
 
 /// ADD, OR, ADC, SBB, AND, SUB and XOR.
-#[tactic(auto, unfolding(mdl_step::specs::DataEffects::binary_plan))]
+#[tactic(auto, unfolding(mdl_step::specs::Arithmetic::binary_plan))]
 pub(crate) fn combine(regs: &mut Regs, flags: &mut Flags, insn: &Insn)
     requires a { IsPlainOf insn.now.size insn.now.a }
     requires b { IsPlainOf insn.now.size insn.now.b }
@@ -146,7 +145,7 @@ pub(crate) fn combine(regs: &mut Regs, flags: &mut Flags, insn: &Insn)
 }
 
 /// CMP and TEST: the flags alone.
-#[tactic(auto, unfolding(mdl_step::specs::DataEffects::compare_plan))]
+#[tactic(auto, unfolding(mdl_step::specs::Arithmetic::compare_plan))]
 pub(crate) fn compare(regs: &Regs, flags: &mut Flags, insn: &Insn)
     requires a { IsPlainOf insn.now.size insn.now.a }
     requires b { IsPlainOf insn.now.size insn.now.b }
@@ -159,7 +158,7 @@ pub(crate) fn compare(regs: &Regs, flags: &mut Flags, insn: &Insn)
 }
 
 /// INC, DEC, NEG and NOT.
-#[tactic(auto, unfolding(mdl_step::specs::DataEffects::unary_plan))]
+#[tactic(auto, unfolding(mdl_step::specs::Arithmetic::unary_plan))]
 pub(crate) fn change(regs: &mut Regs, flags: &mut Flags, insn: &Insn)
     requires { IsPlainOf insn.now.size insn.now.a }
     ensures plan { follow (whole regs.new flags.new)
@@ -172,7 +171,7 @@ pub(crate) fn change(regs: &mut Regs, flags: &mut Flags, insn: &Insn)
 }
 
 /// ADD, OR, ADC, SBB, AND, SUB and XOR in memory.
-#[tactic(auto, unfolding(mdl_step::specs::DataEffects::binary_plan))]
+#[tactic(auto, unfolding(mdl_step::specs::Arithmetic::binary_plan))]
 pub(crate) fn combine_memory<L: Linear>(
     regs: &Regs,
     flags: &mut Flags,
@@ -196,7 +195,7 @@ pub(crate) fn combine_memory<L: Linear>(
 }
 
 /// INC, DEC, NEG and NOT in memory.
-#[tactic(auto, unfolding(mdl_step::specs::DataEffects::unary_plan))]
+#[tactic(auto, unfolding(mdl_step::specs::Arithmetic::unary_plan))]
 pub(crate) fn change_memory<L: Linear>(
     regs: &Regs,
     flags: &mut Flags,

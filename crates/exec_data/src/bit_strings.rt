@@ -8,21 +8,18 @@ ghost use Rattle.mdl_state.specs.Accesses.{Keeps, HasRoom, IsPlace};
 ghost use Rattle.mdl_state.specs.Attempt.{tried};
 ghost use Rattle.mdl_cpu.specs.Addresses.{IsAddress, HasAddress};
 ghost use Rattle.mdl_step.specs.Operands.{Made};
-ghost use Rattle.mdl_step.specs.DataEffects.{bit_distance, bit_offset, bit_read, bit_change, bit_test_plan, bit_change_plan};
+ghost use Rattle.mdl_step.specs.Shifts.{bit_distance, bit_offset, bit_read, bit_change, bit_test_plan, bit_change_plan};
 ghost use Rattle.mdl_step.specs.Forms.{IsOf};
-ghost use Rattle.exec_data.specs.Whole.{whole, after, IsPlainWithin};
-ghost use Rattle.exec_data.specs.Memory.{IsMemoryOf, changed};
+ghost use Rattle.operands.specs.Whole.{whole, after, IsPlainWithin};
+ghost use Rattle.operands.specs.Memory.{IsMemoryOf, changed};
 
-use crate::addresses::cut;
 use crate::bits::bit_place;
-use crate::kept::keep;
-use crate::memory::{load, no_such, offset, open_at};
-use crate::registers::narrow_value;
 use lazy_flags::Flags;
 use mdl_insn::{Insn, Mem, Operand};
 use mdl_num::{BitOp, bits, bound, half};
 use mdl_state::{Fault, Place, Regs, Size};
 use mem_iface::{Linear, bytes_of};
+use operands::{cut, keep, load, narrow_value, no_such, offset, open_at};
 
 /// How far a signed index moves the address.
 fn bit_distance(size: Size, index: u32) -> u64
@@ -93,7 +90,7 @@ fn bit_open<L: Linear>(regs: &Regs, lin: &mut L, insn: &Insn, index: u32) -> Res
 }
 
 /// BT in memory: the flags alone.
-#[tactic(auto, using(mdl_state::specs::Rules::attempts), unfolding(mdl_step::specs::DataEffects::bit_test_plan))]
+#[tactic(auto, using(mdl_state::specs::Rules::attempts), unfolding(mdl_step::specs::Shifts::bit_test_plan))]
 pub(crate) fn bit_test_memory<L: Linear>(
     regs: &Regs,
     flags: &mut Flags,
@@ -118,7 +115,7 @@ pub(crate) fn bit_test_memory<L: Linear>(
 }
 
 /// BTS, BTR and BTC in memory.
-#[tactic(auto, unfolding(mdl_step::specs::DataEffects::bit_change_plan))]
+#[tactic(auto, unfolding(mdl_step::specs::Shifts::bit_change_plan))]
 pub(crate) fn bit_change_memory<L: Linear>(
     regs: &Regs,
     flags: &mut Flags,

@@ -1,21 +1,20 @@
 //! BOUND.
 
-ghost use Rattle.std.specs.Prelude.{◌≡◌, ◌<◌, ◌≢◌, ℕ};
+ghost use Rattle.std.specs.Prelude.{◌≡◌, ◌<◌, ℕ};
 ghost use Rattle.mdl_state.specs.Bytes.{bound_of};
 ghost use Rattle.mdl_state.specs.Serving.{by_pick};
 ghost use Rattle.mdl_state.specs.Accesses.{Keeps};
 ghost use Rattle.mdl_state.specs.Attempt.{tried};
 ghost use Rattle.mdl_cpu.specs.Addresses.{HasAddress};
-ghost use Rattle.mdl_step.specs.DataEffects.{bound_fault, is_between, bound_plan};
+ghost use Rattle.mdl_step.specs.Moves.{bound_fault, is_between, bound_plan};
 ghost use Rattle.mdl_step.specs.Forms.{IsOf};
-ghost use Rattle.exec_data.specs.Whole.{whole, after};
+ghost use Rattle.operands.specs.Whole.{whole, after};
 
-use crate::memory::{load, load_part, no_such, offset};
-use crate::registers::value;
 use mdl_insn::{Insn, Operand};
 use mdl_num::signed;
 use mdl_state::{Fault, Regs, Size};
 use mem_iface::{Linear, bytes_of};
+use operands::{load, load_part, no_such, offset, value};
 
 /// The vector of an index outside its bounds.
 const BOUND_RANGE: u8 = 5;
@@ -42,7 +41,7 @@ fn is_between(size: Size, index: u32, lower: u32, upper: u32) -> bool
 }
 
 /// BOUND.
-#[tactic(auto, using(mdl_state::specs::Rules::attempts), unfolding(mdl_step::specs::DataEffects::bound_plan))]
+#[tactic(auto, using(mdl_state::specs::Rules::attempts), unfolding(mdl_step::specs::Moves::bound_plan))]
 pub(crate) fn check_bounds<L: Linear>(regs: &Regs, lin: &mut L, insn: &Insn) -> Result<(), Fault>
     requires a { IsOf insn.now.size insn.now.a }
     requires address { HasAddress insn.now.b }

@@ -1,24 +1,23 @@
 //! LES, LDS, LSS, LFS and LGS.
 
-ghost use Rattle.std.specs.Prelude.{◌≡◌, ◌≢◌, ℕ, false, OnErr};
+ghost use Rattle.std.specs.Prelude.{◌≡◌, ℕ, false, OnErr};
 ghost use Rattle.mdl_state.specs.Serving.{by_pick};
 ghost use Rattle.mdl_state.specs.Accesses.{Keeps, HasRoom};
 ghost use Rattle.mdl_state.specs.Attempt.{tried};
 ghost use Rattle.mdl_cpu.specs.Addresses.{HasAddress};
 ghost use Rattle.mdl_cpu.specs.Segments.{has_protection};
-ghost use Rattle.mdl_step.specs.DataEffects.{pointer_plan};
+ghost use Rattle.mdl_step.specs.Moves.{pointer_plan};
 ghost use Rattle.mdl_step.specs.Forms.{IsOf};
-ghost use Rattle.exec_data.specs.Whole.{whole, after};
+ghost use Rattle.operands.specs.Whole.{whole, after};
 
-use crate::memory::{load, load_part, no_such, offset};
-use crate::registers::set;
 use crate::segments::load_segment;
 use mdl_insn::{Insn, Operand};
 use mdl_state::{Fault, Regs, Seg, Size};
 use mem_iface::{Linear, bytes_of};
+use operands::{load, load_part, no_such, offset, set};
 
 /// A far pointer: the offset, and the selector behind it. The register is set after the load.
-#[tactic(auto, using(mdl_state::specs::Rules::attempts), unfolding(mdl_step::specs::DataEffects::pointer_plan))]
+#[tactic(auto, using(mdl_state::specs::Rules::attempts), unfolding(mdl_step::specs::Moves::pointer_plan))]
 pub(crate) fn load_pointer<L: Linear>(
     regs: &mut Regs,
     lin: &mut L,

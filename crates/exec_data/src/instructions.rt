@@ -8,7 +8,7 @@ ghost use Rattle.mdl_state.specs.Attempt.{tried};
 ghost use Rattle.mdl_cpu.specs.Segments.{has_protection};
 ghost use Rattle.mdl_step.specs.DataEffects.{runs_data};
 ghost use Rattle.mdl_step.specs.Effects.{effect};
-ghost use Rattle.exec_data.specs.Whole.{whole, ran};
+ghost use Rattle.operands.specs.Whole.{whole, ran};
 
 use crate::memory_run::run_memory;
 use crate::plain::is_plain_data;

@@ -4,7 +4,7 @@
 //! The one contract used above is `run`: over any memory, in real mode, it does what the written
 //! machine says of the instruction. `run_plain` does the same where each operand is a register or a
 //! number, and reads no memory. The status flags stand apart from EFLAGS, in a keeper. Read
-//! `specs/Whole.antt` first, then `DataEffects.antt` of `mdl_step`.
+//! `Whole.antt` of `operands` first, then `DataEffects.antt` of `mdl_step`.
 #![tactic(auto)]
 
 mod addresses;
@@ -16,23 +16,19 @@ mod bounds;
 mod conditions;
 mod far_pointers;
 mod instructions;
-mod kept;
-mod memory;
 mod memory_run;
 mod moves;
+mod pairs;
 mod plain;
 mod plain_run;
 mod products;
 mod reads;
-mod registers;
 mod segments;
 mod shifts;
 
 pub use instructions::run;
-pub use plain::is_plain_data;
+pub use plain::{is_plain_data, runs_data};
 pub use plain_run::run_plain;
 
 #[cfg(test)]
 mod examples;
-#[cfg(test)]
-mod memory_examples;

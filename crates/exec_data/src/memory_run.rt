@@ -7,12 +7,13 @@ ghost use Rattle.mdl_state.specs.Accesses.{Keeps, HasRoom};
 ghost use Rattle.mdl_state.specs.Attempt.{tried};
 ghost use Rattle.mdl_cpu.specs.Addresses.{HasAddress, HasAddresses};
 ghost use Rattle.mdl_cpu.specs.Segments.{has_protection};
-ghost use Rattle.mdl_step.specs.Operands.{is_plain, is_nothing};
-ghost use Rattle.mdl_step.specs.DataEffects.{is_data, runs_data, mov_plan, data_effect};
+ghost use Rattle.mdl_step.specs.Operands.{is_plain, is_nothing, is_segment};
+ghost use Rattle.mdl_step.specs.Moves.{mov_plan};
+ghost use Rattle.mdl_step.specs.DataEffects.{is_data, runs_data, data_effect};
 ghost use Rattle.mdl_step.specs.Effects.{is_plain_data};
 ghost use Rattle.mdl_step.specs.Forms.{IsFormed, IsMove};
-ghost use Rattle.exec_data.specs.Whole.{whole, after, ran};
-ghost use Rattle.exec_data.specs.Places.{is_segment, placed, is_placed};
+ghost use Rattle.operands.specs.Whole.{whole, after, ran};
+ghost use Rattle.exec_data.specs.Places.{placed, is_placed};
 ghost use Rattle.exec_data.specs.Reads.{is_move};
 
 use crate::addresses::{load_address, translate_byte};
@@ -21,8 +22,8 @@ use crate::bit_strings::{bit_change_memory, bit_test_memory};
 use crate::bounds::check_bounds;
 use crate::conditions::set_memory;
 use crate::far_pointers::load_pointer;
-use crate::moves::{copy, exchange_memory, move_memory};
-use crate::plain::{is_data, is_move, is_plain};
+use crate::moves::{exchange_memory, move_memory};
+use crate::plain::{is_data, is_move};
 use crate::reads::{run_first, run_second};
 use crate::segments::{move_from_segment, move_to_segment, pop_segment};
 use crate::shifts::{double_shift_memory, shift_memory};
@@ -31,6 +32,7 @@ use mdl_insn::{Insn, Op, Operand};
 use mdl_num::BitOp;
 use mdl_state::{Fault, Next, Regs, Seg};
 use mem_iface::Linear;
+use operands::is_plain;
 
 /// The instruction by its mnemonic, where its first operand is memory.
 #[rattlefmt::skip]

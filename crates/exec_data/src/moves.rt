@@ -8,23 +8,21 @@ ghost use Rattle.mdl_state.specs.Attempt.{tried};
 ghost use Rattle.mdl_cpu.specs.Addresses.{HasAddress};
 ghost use Rattle.mdl_step.specs.Operands.{follow, writing};
 ghost use Rattle.mdl_step.specs.Forms.{IsOf};
-ghost use Rattle.mdl_step.specs.DataEffects.{sign_extended, move_plan, sign_extend_plan, exchange_plan};
-ghost use Rattle.mdl_step.specs.DataEffects.{half_size, widen_plan, sign_plan};
-ghost use Rattle.exec_data.specs.Whole.{whole, after, IsPlainOf, IsPlainWithin, KeepsOther};
-ghost use Rattle.exec_data.specs.Memory.{IsMemoryOf};
+ghost use Rattle.mdl_step.specs.Moves.{sign_extended, move_plan, sign_extend_plan, exchange_plan, half_size, widen_plan, sign_plan};
+ghost use Rattle.operands.specs.Whole.{whole, after, IsPlainOf, IsPlainWithin, KeepsOther};
+ghost use Rattle.operands.specs.Memory.{IsMemoryOf};
 
-use crate::memory::{open, read_sized, write};
-use crate::plain::is_plain;
-use crate::registers::{
-    ACCUMULATOR, DATA, is_nothing, narrow_value, own_size, reg, set, set_reg, value,
-};
 use mdl_insn::{Insn, Operand};
 use mdl_num::{bound, half, signed, word};
 use mdl_state::{Fault, Regs, Size};
 use mem_iface::Linear;
+use operands::{
+    ACCUMULATOR, DATA, is_nothing, is_plain, narrow_value, open, own_size, read_sized, reg, set,
+    set_reg, value, write,
+};
 
 /// MOV.
-#[tactic(auto, unfolding(mdl_step::specs::DataEffects::move_plan))]
+#[tactic(auto, unfolding(mdl_step::specs::Moves::move_plan))]
 pub(crate) fn copy(regs: &mut Regs, insn: &Insn)
     requires a { IsPlainOf insn.now.size insn.now.a }
     requires b { IsPlainOf insn.now.size insn.now.b }
@@ -37,7 +35,7 @@ pub(crate) fn copy(regs: &mut Regs, insn: &Insn)
 }
 
 /// MOVZX.
-#[tactic(auto, unfolding(mdl_step::specs::DataEffects::move_plan))]
+#[tactic(auto, unfolding(mdl_step::specs::Moves::move_plan))]
 pub(crate) fn zero_extend(regs: &mut Regs, insn: &Insn)
     requires a { IsPlainOf insn.now.size insn.now.a }
     requires b { IsPlainWithin insn.now.size insn.now.b }
@@ -60,7 +58,7 @@ fn sign_extended(from: Size, to: Size, value: u32) -> u32
 }
 
 /// MOVSX.
-#[tactic(auto, unfolding(mdl_step::specs::DataEffects::sign_extend_plan))]
+#[tactic(auto, unfolding(mdl_step::specs::Moves::sign_extend_plan))]
 pub(crate) fn sign_extend(regs: &mut Regs, insn: &Insn)
     requires a { IsPlainOf insn.now.size insn.now.a }
     requires b { IsPlainWithin insn.now.size insn.now.b }
@@ -75,7 +73,7 @@ pub(crate) fn sign_extend(regs: &mut Regs, insn: &Insn)
 }
 
 /// XCHG, and what does nothing.
-#[tactic(auto, unfolding(mdl_step::specs::DataEffects::exchange_plan))]
+#[tactic(auto, unfolding(mdl_step::specs::Moves::exchange_plan))]
 pub(crate) fn exchange(regs: &mut Regs, insn: &Insn)
     requires a { IsPlainOf insn.now.size insn.now.a }
     requires b { IsPlainOf insn.now.size insn.now.b }
@@ -104,7 +102,7 @@ fn half_size(size: Size) -> Size
 }
 
 /// CBW and CWDE.
-#[tactic(auto, unfolding(mdl_step::specs::DataEffects::widen_plan))]
+#[tactic(auto, unfolding(mdl_step::specs::Moves::widen_plan))]
 pub(crate) fn widen(regs: &mut Regs, insn: &Insn)
     ensures plan { (flags : ℕ) → follow (whole regs.new flags)
         ≡ widen_plan insn.now (whole regs.old flags) }
@@ -116,7 +114,7 @@ pub(crate) fn widen(regs: &mut Regs, insn: &Insn)
 }
 
 /// CWD and CDQ.
-#[tactic(auto, unfolding(mdl_step::specs::DataEffects::sign_plan))]
+#[tactic(auto, unfolding(mdl_step::specs::Moves::sign_plan))]
 pub(crate) fn sign(regs: &mut Regs, insn: &Insn)
     ensures plan { (flags : ℕ) → follow (whole regs.new flags)
         ≡ sign_plan insn.now (whole regs.old flags) }
@@ -158,7 +156,7 @@ pub(crate) fn put<L: Linear>(
 }
 
 /// MOV from memory or to it.
-#[tactic(auto, using(mdl_state::specs::Rules::attempts), unfolding(mdl_step::specs::DataEffects::move_plan))]
+#[tactic(auto, using(mdl_state::specs::Rules::attempts), unfolding(mdl_step::specs::Moves::move_plan))]
 pub(crate) fn move_memory<L: Linear>(regs: &mut Regs, lin: &mut L, insn: &Insn) -> Result<(), Fault>
     requires a { IsOf insn.now.size insn.now.a }
     requires b { IsOf insn.now.size insn.now.b }
@@ -182,7 +180,7 @@ pub(crate) fn move_memory<L: Linear>(regs: &mut Regs, lin: &mut L, insn: &Insn) 
 }
 
 /// XCHG with memory. The register is set after the last check.
-#[tactic(auto, unfolding(mdl_step::specs::DataEffects::exchange_plan))]
+#[tactic(auto, unfolding(mdl_step::specs::Moves::exchange_plan))]
 pub(crate) fn exchange_memory<L: Linear>(
     regs: &mut Regs,
     lin: &mut L,

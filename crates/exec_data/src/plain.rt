@@ -1,12 +1,12 @@
-//! Which instructions are data instructions on registers and numbers alone.
+//! Which instructions are data instructions, and which of them are on registers and numbers alone.
 
 ghost use Rattle.std.specs.Prelude.{◌≡◌};
-ghost use Rattle.mdl_step.specs.Operands.{is_plain};
-ghost use Rattle.mdl_step.specs.DataEffects.{is_data};
+ghost use Rattle.mdl_step.specs.DataEffects.{is_data, is_address, is_special, is_segment_pop, runs_data};
 ghost use Rattle.mdl_step.specs.Effects.{is_plain_data};
 ghost use Rattle.exec_data.specs.Reads.{is_move};
 
 use mdl_insn::{Insn, Op, Operand};
+use operands::is_plain;
 
 /// Whether the mnemonic is that of a data instruction.
 pub(crate) fn is_data(op: Op) -> bool
@@ -35,14 +35,47 @@ pub(crate) fn is_move(op: Op) -> bool
     }
 }
 
-/// Whether the operand is a general register, a number, or nothing.
-pub(crate) fn is_plain(operand: &Operand) -> bool
-    ensures { result ≡ is_plain operand.now }
+/// Whether the mnemonic takes memory or a segment register alone.
+fn is_address(op: Op) -> bool
+    ensures { result ≡ is_address op }
 {
-    match operand {
-        Operand::Nothing | Operand::Gpr(_, _) | Operand::Imm(_, _) => true,
+    match op {
+        Op::Lea | Op::Xlat | Op::Bound => true,
+        Op::Les | Op::Lds | Op::Lss | Op::Lfs | Op::Lgs => true,
         _ => false,
     }
+}
+
+/// Whether the operand is a control or debug register.
+fn is_special(operand: &Operand) -> bool
+    ensures { result ≡ is_special operand.now }
+{
+    match operand {
+        Operand::Creg(_) | Operand::Dreg(_) => true,
+        _ => false,
+    }
+}
+
+/// Whether it is a POP of a segment register.
+fn is_segment_pop(insn: &Insn) -> bool
+    ensures { result ≡ is_segment_pop insn.now.op insn.now.a }
+{
+    match insn.op {
+        Op::Pop => match insn.a {
+            Operand::Sreg(_) => true,
+            _ => false,
+        },
+        _ => false,
+    }
+}
+
+/// Whether `run` runs the instruction.
+pub fn runs_data(insn: &Insn) -> bool
+    ensures { result ≡ runs_data insn.now }
+{
+    is_data(insn.op) && !is_special(&insn.a) && !is_special(&insn.b)
+        || is_address(insn.op)
+        || is_segment_pop(insn)
 }
 
 /// Whether `run_plain` runs the instruction.

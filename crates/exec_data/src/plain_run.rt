@@ -6,11 +6,12 @@ ghost use Rattle.mdl_state.specs.State.{Mem};
 ghost use Rattle.mdl_state.specs.Serving.{Serve};
 ghost use Rattle.mdl_state.specs.Attempt.{tried};
 ghost use Rattle.mdl_step.specs.Operands.{follow};
-ghost use Rattle.mdl_step.specs.DataEffects.{data_effect, divide_error};
+ghost use Rattle.mdl_step.specs.Arithmetic.{divide_error};
+ghost use Rattle.mdl_step.specs.DataEffects.{data_effect};
 ghost use Rattle.mdl_step.specs.Effects.{effect, is_plain_data};
 ghost use Rattle.mdl_step.specs.Forms.{IsFormed};
-ghost use Rattle.mdl_step.specs.Step.{is_plain_mode};
-ghost use Rattle.exec_data.specs.Whole.{whole, done, after, can_fail, KeepsOther};
+ghost use Rattle.operands.specs.Whole.{whole, done, after, KeepsOther};
+ghost use Rattle.exec_data.specs.Failing.{can_fail};
 
 use crate::adjusts::{adjust, digits, from_digits};
 use crate::arithmetic::{change, combine, compare};
@@ -89,7 +90,7 @@ pub(crate) fn run_formed(regs: &mut Regs, flags: &mut Flags, insn: &Insn) -> Res
 ///
 /// The status flags of EFLAGS are those of `flags`; of `regs` the call changes general registers
 /// alone.
-#[tactic(auto, using(crate::proofs::Attempts::attempts, crate::proofs::Modes::mode_kept))]
+#[tactic(auto, using(crate::proofs::Attempts::attempts))]
 pub fn run_plain(regs: &mut Regs, flags: &mut Flags, insn: &Insn) -> Result<(), Fault>
     requires spelt { (bytes : List ℕ) × (big : Bool) × Spelt bytes big insn.now }
     requires plain { IsTrue (is_plain_data insn.now) }
@@ -98,7 +99,6 @@ pub fn run_plain(regs: &mut Regs, flags: &mut Flags, insn: &Insn) -> Result<(), 
     ensures fault { IfErr result (λ fault. fault ≡ divide_error) }
     ensures unchanged { OnErr result ((regs.new ≡ regs.old) × (flags.new ≡ flags.old)) }
     ensures kept { KeepsOther regs.old regs.new }
-    ensures mode { is_plain_mode (whole regs.new flags.new) ≡ is_plain_mode (whole regs.old flags.old) }
 {
     run_formed(regs, flags, insn)
 }

@@ -8,16 +8,15 @@ ghost use Rattle.mdl_cpu.specs.Addresses.{HasAddress};
 ghost use Rattle.mdl_step.specs.Operands.{is_plain, is_nothing};
 ghost use Rattle.mdl_step.specs.DataEffects.{data_effect};
 ghost use Rattle.mdl_step.specs.Forms.{IsFormed};
-ghost use Rattle.exec_data.specs.Whole.{whole, after};
+ghost use Rattle.operands.specs.Whole.{whole, after};
 ghost use Rattle.exec_data.specs.Reads.{reads_first, reads_second, with_first, with_second};
 
-use crate::memory::read;
 use crate::plain_run::run_formed;
-use crate::registers::size_of;
 use lazy_flags::Flags;
 use mdl_insn::{Insn, Operand};
 use mdl_state::{Fault, Regs};
 use mem_iface::Linear;
+use operands::{read, size_of};
 
 /// The instruction with a number as its first operand.
 fn with_first(insn: &Insn, value: u32) -> Insn

@@ -1,6 +1,6 @@
 //! Moves and pops of segment registers.
 
-ghost use Rattle.std.specs.Prelude.{◌≡◌, ◌≢◌, ◌<◌, ◌+◌, ◌≤◌, ◌^◌, ℕ, false, length, OnErr};
+ghost use Rattle.std.specs.Prelude.{◌≡◌, ◌≢◌, ◌<◌, ◌^◌, ℕ, false, OnErr};
 ghost use Rattle.mdl_state.specs.declared.Size.TheVariants.{B1, B2};
 ghost use Rattle.mdl_state.specs.Registers.{seg_of};
 ghost use Rattle.mdl_state.specs.Serving.{by_pick};
@@ -9,17 +9,15 @@ ghost use Rattle.mdl_state.specs.Attempt.{tried};
 ghost use Rattle.mdl_cpu.specs.Addresses.{HasAddress};
 ghost use Rattle.mdl_cpu.specs.Segments.{has_protection};
 ghost use Rattle.mdl_cpu.specs.Loads.{load_plan, answered};
-ghost use Rattle.mdl_step.specs.DataEffects.{after_load, stack_size, load_segment_plan, store_segment_plan, pop_segment_plan};
+ghost use Rattle.mdl_step.specs.Moves.{after_load, load_segment_plan, store_segment_plan, pop_segment_plan};
 ghost use Rattle.mdl_step.specs.Forms.{IsOf};
-ghost use Rattle.exec_data.specs.Whole.{whole, after, ran, KeepsOther};
+ghost use Rattle.operands.specs.Whole.{whole, after, ran, KeepsOther};
 
-use crate::memory::{load, no_such, read_sized, write};
-use crate::plain::is_plain;
-use crate::registers::{STACK, reg, set_reg, value};
 use desc_load::{load_data, load_stack};
 use mdl_insn::{Insn, Operand};
 use mdl_state::{Fault, Next, Regs, Seg, Size};
-use mem_iface::{Linear, bytes_of};
+use mem_iface::Linear;
+use operands::{is_plain, no_such, pop, read_sized, set_reg, value, write};
 use seg_unit::segment;
 
 /// A load of a segment register.
@@ -53,7 +51,7 @@ fn after_load(seg: Seg) -> Next
 }
 
 /// MOV to a segment register.
-#[tactic(auto, using(mdl_state::specs::Rules::attempts), unfolding(mdl_step::specs::DataEffects::load_segment_plan))]
+#[tactic(auto, using(mdl_state::specs::Rules::attempts), unfolding(mdl_step::specs::Moves::load_segment_plan))]
 pub(crate) fn move_to_segment<L: Linear>(
     regs: &mut Regs,
     lin: &mut L,
@@ -89,7 +87,7 @@ fn selector(regs: &Regs, seg: Seg) -> u32
 }
 
 /// MOV from a segment register: a doubleword register is zero extended, and memory gets a word.
-#[tactic(auto, using(mdl_state::specs::Rules::attempts), unfolding(mdl_step::specs::DataEffects::store_segment_plan))]
+#[tactic(auto, using(mdl_state::specs::Rules::attempts), unfolding(mdl_step::specs::Moves::store_segment_plan))]
 pub(crate) fn move_from_segment<L: Linear>(
     regs: &mut Regs,
     lin: &mut L,
@@ -121,7 +119,7 @@ pub(crate) fn move_from_segment<L: Linear>(
 }
 
 /// POP of a segment register, of which the operand size is read.
-#[tactic(auto, using(mdl_state::specs::Rules::attempts), unfolding(mdl_step::specs::DataEffects::pop_segment_plan, mdl_step::specs::DataEffects::pop_plan))]
+#[tactic(auto, using(mdl_state::specs::Rules::attempts), unfolding(mdl_step::specs::Moves::pop_segment_plan))]
 pub(crate) fn pop_segment<L: Linear>(
     regs: &mut Regs,
     lin: &mut L,
@@ -137,15 +135,8 @@ pub(crate) fn pop_segment<L: Linear>(
     let Operand::Sreg(seg) = insn.a else {
         return Err(no_such());
     };
-    let top = reg(regs, STACK, Size::B2);
-    let value = load(regs, lin, Seg::Ss, top, insn.size)?;
     let mut popped = *regs;
-    set_reg(
-        &mut popped,
-        STACK,
-        Size::B2,
-        (top + bytes_of(insn.size)) % 0x1_0000,
-    );
+    let value = pop(&mut popped, lin, insn.size)?;
     load_segment(&mut popped, lin, seg, (value % 0x1_0000) as u16)?;
     *regs = popped;
     Ok(after_load(seg))

@@ -8,21 +8,19 @@ ghost use Rattle.mdl_state.specs.Accesses.{Keeps, HasRoom};
 ghost use Rattle.mdl_state.specs.Attempt.{tried};
 ghost use Rattle.mdl_num.specs.Flags.{flags_after};
 ghost use Rattle.mdl_step.specs.Operands.{follow};
-ghost use Rattle.mdl_step.specs.DataEffects.{shifted, shift_plan, double_shift_plan};
-ghost use Rattle.exec_data.specs.Whole.{whole, after, IsPlainOf, KeepsOther};
-ghost use Rattle.exec_data.specs.Memory.{IsMemoryOf};
+ghost use Rattle.mdl_step.specs.Shifts.{shifted, shift_plan, double_shift_plan};
+ghost use Rattle.operands.specs.Whole.{whole, after, IsPlainOf, KeepsOther};
+ghost use Rattle.operands.specs.Memory.{IsMemoryOf};
 
-use crate::kept::keep;
-use crate::memory::open;
-use crate::registers::{set, value};
 use lazy_flags::Flags;
 use mdl_insn::{Insn, Op};
 use mdl_num::{Alu, RotateOp, ShiftOp};
 use mdl_state::{Fault, Regs, Size};
 use mem_iface::Linear;
+use operands::{keep, open, set, value};
 
 /// A shift or a rotate by its mnemonic.
-#[tactic(auto, using(crate::proofs::Statuses::statuses))]
+#[tactic(auto, using(operands::proofs::Statuses::statuses))]
 fn shifted(op: Op, size: Size, a: u32, count: u8, flags: u32) -> Alu
     requires { a < bound_of size }
     ensures value { result.value ≡ (shifted op size a count flags).value }
@@ -42,7 +40,7 @@ fn shifted(op: Op, size: Size, a: u32, count: u8, flags: u32) -> Alu
 }
 
 /// ROL to SAR.
-#[tactic(auto, unfolding(mdl_step::specs::DataEffects::shift_plan))]
+#[tactic(auto, unfolding(mdl_step::specs::Shifts::shift_plan))]
 pub(crate) fn shift(regs: &mut Regs, flags: &mut Flags, insn: &Insn)
     requires a { IsPlainOf insn.now.size insn.now.a }
     requires b { IsPlainOf B1 insn.now.b }
@@ -58,7 +56,7 @@ pub(crate) fn shift(regs: &mut Regs, flags: &mut Flags, insn: &Insn)
 }
 
 /// SHLD, with `left`, and SHRD.
-#[tactic(auto, unfolding(mdl_step::specs::DataEffects::double_shift_plan))]
+#[tactic(auto, unfolding(mdl_step::specs::Shifts::double_shift_plan))]
 pub(crate) fn double_shift(regs: &mut Regs, flags: &mut Flags, insn: &Insn, left: bool)
     requires size { insn.now.size ≢ B1 }
     requires a { IsPlainOf insn.now.size insn.now.a }
@@ -78,7 +76,7 @@ pub(crate) fn double_shift(regs: &mut Regs, flags: &mut Flags, insn: &Insn, left
 }
 
 /// ROL to SAR in memory.
-#[tactic(auto, unfolding(mdl_step::specs::DataEffects::shift_plan))]
+#[tactic(auto, unfolding(mdl_step::specs::Shifts::shift_plan))]
 pub(crate) fn shift_memory<L: Linear>(
     regs: &Regs,
     flags: &mut Flags,
@@ -103,7 +101,7 @@ pub(crate) fn shift_memory<L: Linear>(
 }
 
 /// SHLD, with `left`, and SHRD in memory.
-#[tactic(auto, unfolding(mdl_step::specs::DataEffects::double_shift_plan))]
+#[tactic(auto, unfolding(mdl_step::specs::Shifts::double_shift_plan))]
 pub(crate) fn double_shift_memory<L: Linear>(
     regs: &Regs,
     flags: &mut Flags,

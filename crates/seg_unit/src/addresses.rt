@@ -1,7 +1,7 @@
 //! The offset of a memory operand.
 
-ghost use Rattle.std.specs.Prelude.{◌≡◌};
-ghost use Rattle.mdl_cpu.specs.Addresses.{part_of, offset_of, IsPart, IsAddress};
+ghost use Rattle.std.specs.Prelude.{◌≡◌, ◌%◌};
+ghost use Rattle.mdl_cpu.specs.Addresses.{part_of, offset_bound, offset_of, IsPart, IsAddress};
 
 use mdl_insn::Mem;
 use mdl_state::Regs;
@@ -17,6 +17,17 @@ fn part(regs: &Regs, register: Option<u8>) -> u32
     }
 }
 
+/// An offset modulo the address size.
+pub fn cut(offset: u64, wide: bool) -> u32
+    ensures { result ≡ offset % offset_bound wide }
+{
+    if wide {
+        (offset % 0x1_0000_0000) as u32
+    } else {
+        (offset % 0x1_0000) as u32
+    }
+}
+
 /// The offset of a memory operand, cut to its address size.
 ///
 /// An operand of an instruction that some bytes spell meets the condition, by
@@ -29,9 +40,5 @@ pub fn address(regs: &Regs, mem: &Mem) -> u32
     let base = part(regs, mem.base) as u64;
     let index = part(regs, mem.index) as u64;
     let sum = base + index * mem.scale as u64 + mem.disp as u64;
-    if mem.wide {
-        (sum % 0x1_0000_0000) as u32
-    } else {
-        (sum % 0x1_0000) as u32
-    }
+    cut(sum, mem.wide)
 }

@@ -8,9 +8,9 @@ mod addresses;
 mod checks;
 mod segments;
 
-pub use addresses::address;
+pub use addresses::{address, cut};
 pub use checks::{check, check_part};
-pub use segments::{is_protected, segment, who};
+pub use segments::{is_big, is_protected, segment, who};
 
 #[cfg(test)]
 mod tests;

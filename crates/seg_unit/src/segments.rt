@@ -81,8 +81,8 @@ pub(crate) fn grows_down(hidden: &Hidden) -> bool
     !is_code(hidden) && hidden.rights / EXPAND_DOWN % 2 == 1
 }
 
-/// D or B is set.
-pub(crate) fn is_big(hidden: &Hidden) -> bool
+/// D or B of a descriptor is set: 32 bits.
+pub fn is_big(hidden: &Hidden) -> bool
     ensures { result ≡ is_big hidden.now }
 {
     hidden.rights / BIG % 2 == 1

@@ -1,6 +1,6 @@
 use Rattle.mdl_state.specs.Serving.{by_pick}
 use Rattle.lazy_flags.specs.Keeper.{with_status}
-use Rattle.exec_data.specs.Whole.{whole}
+use Rattle.operands.specs.Whole.{whole}
 use Rattle.exec_data.proofs.Readings.{second_ran, second_refused}
 use Rattle.exec_data.proofs.reads.run_second.Goals as goal
 

@@ -5,13 +5,16 @@ ghost use Rattle.mdl_state.specs.declared.Regs.{Regs};
 ghost use Rattle.mdl_num.specs.Flags.{flags_after};
 ghost use Rattle.mdl_num.specs.declared.status.Status.{Status};
 ghost use Rattle.mdl_step.specs.Operands.{with_flags};
-ghost use Rattle.exec_data.specs.Whole.{whole};
+ghost use Rattle.operands.specs.Whole.{whole};
 
 use lazy_flags::Flags;
 
+/// The number of DF in EFLAGS.
+pub const DF: u8 = 10;
+
 /// Keeps the status flags of EFLAGS as an operation leaves it.
 #[tactic(auto, using(crate::proofs::Statuses::unpacked))]
-pub(crate) fn keep(flags: &mut Flags, eflags: u32)
+pub fn keep(flags: &mut Flags, eflags: u32)
     ensures { (r : Regs) (status : Status) → eflags ≡ flags_after status (whole r flags.old).eflags eflags
         → whole r flags.new ≡ with_flags (whole r flags.old) status (whole r flags.new).eflags }
 {

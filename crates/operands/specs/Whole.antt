@@ -1,5 +1,5 @@
 -- The registers whose status flags are kept apart, and what an instruction leaves. Manual, chapter 2.
-use Rattle.std.specs.Prelude.{◌≡◌, ℕ, Result, Ok, Err, Bool, true, false}
+use Rattle.std.specs.Prelude.{◌≡◌, ℕ, Result, Ok, Err, true}
 use Rattle.mdl_state.specs.declared.Regs.{Regs}
 use Rattle.mdl_state.specs.declared.Size.{Size}
 use Rattle.mdl_state.specs.declared.Fault.{Fault}
@@ -8,8 +8,6 @@ use Rattle.mdl_state.specs.declared.Next.TheVariants.{Follow}
 use Rattle.mdl_state.specs.Attempt.{Plan, Fail}
 use Rattle.mdl_state.specs.Serving.{Outcome, Passed, Failed}
 use Rattle.mdl_insn.specs.declared.instruction.Operand.{Operand}
-use Rattle.mdl_insn.specs.declared.mnemonics.Op.{Op}
-use Rattle.mdl_insn.specs.declared.mnemonics.Op.TheVariants as ops
 use Rattle.mdl_step.specs.Operands.{After, follow, is_plain}
 use Rattle.mdl_step.specs.Forms.{IsOf, IsWithin}
 use Rattle.lazy_flags.specs.Keeper.{with_status}
@@ -59,10 +57,3 @@ IsPlainOf size operand = (is_plain operand ≡ true) × IsOf size operand
 -- a register or a number of no more bytes, or nothing
 abbrev pub IsPlainWithin : Size → Operand → Type 0
 IsPlainWithin size operand = (is_plain operand ≡ true) × IsWithin size operand
-
--- the mnemonics that may end in a divide error
-abbrev pub can_fail : Op → Bool
-can_fail ops.Div = true
-can_fail ops.Idiv = true
-can_fail ops.Aam = true
-can_fail _ = false
