@@ -1,0 +1,5 @@
+pub mod Targets
+pub mod Direction
+pub mod Levels
+pub mod Orders
+pub mod NearLaws
