@@ -1,0 +1,13 @@
+//! The string instructions, one iteration a call: MOVS, CMPS, STOS, LODS and SCAS.
+//!
+//! The one contract used above is `run`: over any memory it does what the written machine says of
+//! the instruction, of a repeated one up to where an interrupt may come. The status flags stand
+//! apart from EFLAGS, in a keeper. Read `StringEffects.antt` of `mdl_step` first.
+#![tactic(auto)]
+
+mod indexes;
+mod instructions;
+mod repeats;
+mod strings;
+
+pub use instructions::{run, runs_string};
