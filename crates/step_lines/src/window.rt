@@ -52,11 +52,16 @@ pub fn restore(memory: &mut Tlb, offset: u32) {
     memory.commit();
 }
 
-/// Memory whose first bytes are the window.
-pub fn new_memory(alloc: Global) -> Result<Tlb, AllocError> {
+/// A mebibyte of zeros, and a ROM.
+pub fn blank_memory(alloc: Global) -> Result<Tlb, AllocError> {
     let ram = new_ram(alloc, 0x100000)?;
     let rom = vec![in alloc; 0xF4; 0x1000]?;
-    let mut memory = Tlb::new(PhysMap::new(ram, rom));
+    Ok(Tlb::new(PhysMap::new(ram, rom)))
+}
+
+/// Memory whose first bytes are the window.
+pub fn new_memory(alloc: Global) -> Result<Tlb, AllocError> {
+    let mut memory = blank_memory(alloc)?;
     for offset in 0..SIZE {
         restore(&mut memory, offset);
     }

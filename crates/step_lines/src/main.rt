@@ -1,0 +1,61 @@
+//! Runs steps over memory, a line each, for values from outside.
+//!
+//! A line has numbers: 1 where code and stack are of 32 bits, how many steps are made, EFLAGS, EIP, the
+//! eight registers, and the 15 bytes from CS:EIP on, behind which every byte of code is a NOP. Each
+//! segment has the base 0 and the limit FFFFh, and the byte at `n` is the low byte of
+//! `n * 167 + n / 256 * 13 + 91`. The answer is `other` where a step is no data instruction, none of the
+//! flow and the stack, and no string; else what comes of the last step, as `ok` or the fault's vector,
+//! EFLAGS, EIP and the registers, and then a line with each offset whose byte is another, and that
+//! byte. Every byte is then put back. `tools/check-vectors` compares such answers with steps of a real
+//! processor.
+#![tactic(auto)]
+
+mod lines;
+mod steps;
+mod window;
+
+use lines::{Answer, answer_of};
+use std::io;
+use window::{SIZE, changed, new_memory, restore};
+
+fn main(rt: HostRuntime) -> io::Result<()> {
+    let Ok(mut memory) = new_memory(rt.alloc()) else {
+        println!(rt; "memory")?;
+        return Ok(());
+    };
+    for line in rt.lines(rt.alloc()) {
+        let answer = answer_of(&mut memory, line?.as_str());
+        match &answer {
+            Some(Answer { fault, regs }) => {
+                let [a, c, d, b, sp, bp, si, di] = regs.gpr;
+                match fault {
+                    None => print!(rt; "ok")?,
+                    Some(vector) => print!(rt; "{vector}")?,
+                }
+                println!(rt;
+                    " {} {} {a} {c} {d} {b} {sp} {bp} {si} {di}",
+                    regs.eflags, regs.eip
+                )?;
+            }
+            None => println!(rt; "other")?,
+        }
+        for offset in 0..SIZE {
+            if let Some(byte) = changed(&mut memory, offset) {
+                if answer.is_some() {
+                    println!(rt; "{offset} {byte}")?;
+                }
+                restore(&mut memory, offset);
+            }
+        }
+    }
+    Ok(())
+}
+
+#[cfg(test)]
+mod data_examples;
+#[cfg(test)]
+mod machine;
+#[cfg(test)]
+mod stack_examples;
+#[cfg(test)]
+mod string_examples;

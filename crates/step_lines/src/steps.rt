@@ -1,0 +1,144 @@
+//! One step, by the crate that runs its instruction.
+
+ghost use Rattle.std.specs.Prelude.{◌≡◌, ℕ, List, Bool, true, false, IsTrue, IfSome, OnOk, OnErr};
+ghost use Rattle.mdl_insn.specs.Spelling.{Spelt};
+ghost use Rattle.mdl_state.specs.Serving.{by_pick};
+ghost use Rattle.mdl_state.specs.Accesses.{committed, discarded, HasRoom};
+ghost use Rattle.mdl_state.specs.Attempt.{tried};
+ghost use Rattle.mdl_cpu.specs.Segments.{has_protection};
+ghost use Rattle.mdl_step.specs.Effects.{effect};
+ghost use Rattle.mdl_step.specs.Step.{landed};
+ghost use Rattle.operands.specs.Whole.{whole, ran};
+ghost use Rattle.step_lines.specs.Families.{Belongs, is_data_family};
+
+use exec_data::runs_data;
+use exec_flow::runs_flow;
+use insn_decode::decode_slice;
+use lazy_flags::Flags;
+use mdl_insn::Insn;
+use mdl_state::{Fault, Next, Regs};
+use mem_iface::Linear;
+use string_ops::runs_string;
+
+/// How many bytes an instruction may hold.
+const ROOM: u16 = 128;
+
+/// PE of CR0.
+const PROTECTION: u32 = 1;
+
+/// The instructions of one crate.
+#[derive(Clone, Copy)]
+enum Family {
+    Data,
+    Flow,
+    Strings,
+}
+
+/// The crate that runs an instruction.
+fn family_of(insn: &Insn) -> Option<Family>
+    ensures { IfSome result (λ family. Belongs family insn.now) }
+{
+    if runs_data(insn) {
+        return Some(Family::Data);
+    }
+    if runs_flow(insn) {
+        return Some(Family::Flow);
+    }
+    if runs_string(insn.op) {
+        return Some(Family::Strings);
+    }
+    None
+}
+
+/// The instruction at the front of these bytes, its length, and the crate that runs it.
+fn instruction_of(code: &[u8], big: bool) -> Option<(Insn, u8, Family)>
+    ensures spelt { IfSome result (λ x. (bytes : List ℕ) × (size : Bool) × Spelt bytes size x.0) }
+    ensures family { IfSome result (λ x. Belongs x.2 x.0) }
+{
+    match decode_slice(code, big) {
+        Ok((insn, count)) => match family_of(&insn) {
+            Some(family) => Some((insn, count, family)),
+            None => None,
+        },
+        Err(_) => None,
+    }
+}
+
+/// Data instructions run in real mode. The others do so too, but for a stack of 32 bits.
+fn set_mode(regs: &mut Regs, family: Family, big: bool)
+    ensures { is_data_family family ≡ true → has_protection regs.new ≡ false }
+{
+    regs.cr0 = match family {
+        Family::Data => 0,
+        Family::Flow | Family::Strings => { if big { PROTECTION } else { 0 } }
+    };
+}
+
+/// An instruction in an attempt, by its crate. `back` is the EIP behind it.
+fn execute<L: Linear>(
+    regs: &mut Regs,
+    flags: &mut Flags,
+    lin: &mut L,
+    insn: &Insn,
+    family: Family,
+    back: u32,
+) -> Result<Next, Fault>
+    requires spelt { (bytes : List ℕ) × (big : Bool) × Spelt bytes big insn.now }
+    requires family { Belongs family insn.now }
+    requires mode { is_data_family family ≡ true → has_protection regs.old ≡ false }
+    requires room { HasRoom (L.seen lin.old) 128 }
+    ensures run { (ran result (whole regs.new flags.new), L.seen lin.new)
+        ≡ tried (by_pick L.pick) 0 (effect insn.now (whole regs.old flags.old) back (whole regs.new flags.new).eflags) (L.seen lin.old) }
+    ensures unchanged { OnErr result ((regs.new ≡ regs.old) × (flags.new ≡ flags.old)) }
+{
+    match family {
+        Family::Data => exec_data::run(regs, flags, lin, insn, back),
+        Family::Flow => exec_flow::run(regs, flags, lin, insn, back),
+        Family::Strings => string_ops::run(regs, flags, lin, insn),
+    }
+}
+
+/// Puts EIP behind an instruction that did not set it and does not go on.
+fn land(regs: &mut Regs, next: Next, back: u32)
+    ensures { regs.new ≡ landed next regs.old back }
+{
+    match next {
+        Next::Landed | Next::Again => {}
+        _ => regs.eip = back,
+    }
+}
+
+/// Places what was held, or drops it at a fault.
+fn finish<L: Linear>(lin: &mut L, ran: &Result<Next, Fault>)
+    ensures passed { OnOk ran.now (L.seen lin.new ≡ committed (L.seen lin.old)) }
+    ensures failed { OnErr ran.now (L.seen lin.new ≡ discarded (L.seen lin.old)) }
+{
+    match ran {
+        Ok(_) => lin.commit(),
+        Err(_) => lin.discard(),
+    }
+}
+
+/// One step of the instruction at the front of these bytes: what follows, or its fault; nothing
+/// where no crate runs it.
+pub fn step<L: Linear>(
+    regs: &mut Regs,
+    lin: &mut L,
+    code: &[u8],
+    big: bool,
+) -> Option<Result<Next, Fault>> {
+    let (insn, count, family) = instruction_of(code, big)?;
+    if lin.room() < ROOM {
+        return None;
+    }
+    set_mode(regs, family, big);
+    let back = regs.eip.wrapping_add(count as u32);
+    let mut flags = Flags::unpack(regs.eflags);
+    let ran = execute(regs, &mut flags, lin, &insn, family, back);
+    if let Ok(next) = ran {
+        land(regs, next, back);
+    }
+    finish(lin, &ran);
+    regs.eflags = flags.pack(regs.eflags);
+    Some(ran)
+}
