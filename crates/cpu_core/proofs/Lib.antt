@@ -1,3 +1,5 @@
-pub mod Standing
-pub mod Running
+pub mod Windows
+pub mod Fetched
+pub mod Modes
+pub mod Settled
 pub mod Steps

@@ -1,3 +1,4 @@
-pub mod Code
-pub mod Flow
-pub mod Running
+pub mod Machine
+pub mod Window
+pub mod Executing
+pub mod Rows

@@ -1,85 +1,71 @@
-//! The instruction at CS:EIP, its bytes fetched one at a time.
+//! Memory with the code that is fetched from it.
 
-ghost use Rattle.std.specs.Prelude.{◌≡◌, ℕ, IfSome, IfNone};
+ghost use Rattle.std.specs.Prelude.{◌≡◌};
 ghost use Rattle.mdl_state.specs.declared.Seg.TheVariants.{Cs};
 ghost use Rattle.mdl_state.specs.Registers.{seg_of};
-ghost use Rattle.mdl_insn.specs.declared.instruction.Insn.{Insn};
-ghost use Rattle.mdl_step.specs.Step.{code_byte, StandsAt};
-ghost use Rattle.insn_decode.specs.Slices.{gives_byte};
-ghost use Rattle.cpu_core.specs.Code.{code_left};
+ghost use Rattle.mdl_cpu.specs.Segments.{who_of};
+ghost use Rattle.cpu_core.specs.Window.{Gives};
 
-use crate::memory::Memory;
-use insn_decode::{Undecoded, decode_into};
-use mdl_insn::{Fetch, Insn};
-use mdl_state::{Fault, Hidden, Regs};
+use mdl_insn::Fetch;
+use mdl_state::{Fault, Regs, Seg, Size, Who};
+use mem_iface::Linear;
+use operands::general_protection;
+use seg_unit::{segment, who};
 
-/// The offset behind the last byte of a code segment of real mode.
-const SEGMENT_END: u32 = 0x10000;
-
-/// The place of CS among the segment registers.
-pub(crate) const CS: usize = 1;
-
-/// The vector of a general protection fault.
-const GENERAL_PROTECTION: u8 = 13;
-
-/// The code from a linear address on, up to the end of its segment.
+/// Memory, and where in it the next byte of code stands: the base and the limit of CS, for whom it is
+/// read, and its offset, which may lie past the last one.
 #[derive(Drop)]
-struct Code<'a> {
-    memory: &'a Memory,
-    linear: u32,
-    offset: u32,
+pub(crate) struct Code<L> {
+    pub(crate) lin: L,
+    base: u32,
+    limit: u32,
+    who: Who,
+    offset: u64,
 }
 
-impl Fetch for Code<'_> {
-    ghost gives = { λ s r t. gives_byte (code_left s.memory.now s.linear s.offset) r (code_left t.memory.now t.linear t.offset) };
+impl<L: Linear> Fetch for Code<L> {
+    ghost gives = { λ s r t. Gives L.pick
+        (record { base = s.base; limit = s.limit; who = s.who; offset = s.offset; mem = L.seen s.lin }) r
+        (record { base = t.base; limit = t.limit; who = t.who; offset = t.offset; mem = L.seen t.lin }) };
 
-    #[tactic(auto, using(crate::proofs::Standing::rest))]
+    #[inline(always)]
     fn next(&mut self) -> Result<u8, Fault> {
-        if self.offset >= SEGMENT_END {
-            return Err(Fault {
-                vector: GENERAL_PROTECTION,
-                code: 0,
-                addr: 0,
-            });
+        if self.offset > self.limit as u64 {
+            return Err(general_protection(0));
         }
-        let byte = self.memory.byte(self.linear);
-        self.linear = self.linear.wrapping_add(1);
+        let at = self.base.wrapping_add(self.offset as u32);
+        let byte = self.lin.read(at, Size::B1, self.who)?;
         self.offset += 1;
-        Ok(byte)
+        Ok(byte as u8)
     }
 }
 
-/// CS with its hidden part.
-#[tactic(auto, unfolding(mdl_state::specs::Registers::seg_of))]
-pub(crate) fn code_segment(regs: &Regs) -> Hidden
-    ensures { result ≡ seg_of regs.now Cs }
-{
-    regs.seg[CS]
-}
+impl<L: Linear> Code<L> {
+    pub(crate) fn new(lin: L) -> Code<L>
+        ensures { result.lin ≡ lin }
+    {
+        Code {
+            lin,
+            base: 0,
+            limit: 0,
+            who: Who::Supervisor,
+            offset: 0,
+        }
+    }
 
-/// The byte at CS:EIP.
-#[tactic(auto, unfolding(mdl_step::specs::Step::code_byte))]
-pub(crate) fn code_byte(memory: &Memory, regs: &Regs) -> u8
-    ensures { result ≡ code_byte memory.now regs.now 0 }
-{
-    memory.byte(code_segment(regs).base.wrapping_add(regs.eip))
-}
-
-/// The instruction at CS:EIP is put into `insn`. The answer is its length, or that none ends within
-/// the segment.
-pub(crate) fn instruction_at(memory: &Memory, regs: &Regs, insn: &mut Insn) -> Option<u8>
-    ensures found { IfSome result (λ count. StandsAt memory.now regs.now insn.new count) }
-    ensures none { IfNone result ((other : Insn) → (count : ℕ) → ¬ StandsAt memory.now regs.now other count) }
-{
-    let mut code = Code {
-        memory,
-        linear: code_segment(regs).base.wrapping_add(regs.eip),
-        offset: regs.eip,
-    };
-    match decode_into(&mut code, false, insn) {
-        Ok(count) => Some(count),
-        Err(Undecoded::Undefined) => None,
-        Err(Undecoded::TooLong) => None,
-        Err(Undecoded::Fetch(_)) => None,
+    /// The next byte is that at CS:EIP.
+    #[tactic(auto, unfolding(mdl_state::specs::Registers::seg_of))]
+    pub(crate) fn start(&mut self, regs: &Regs)
+        ensures base { self.new.base ≡ (seg_of regs.now Cs).base }
+        ensures limit { self.new.limit ≡ (seg_of regs.now Cs).limit }
+        ensures who { self.new.who ≡ who_of regs.now }
+        ensures offset { self.new.offset ≡ regs.now.eip }
+        ensures memory { self.new.lin ≡ self.old.lin }
+    {
+        let code = segment(regs, Seg::Cs);
+        self.base = code.base;
+        self.limit = code.limit;
+        self.who = who(regs);
+        self.offset = regs.eip as u64;
     }
 }

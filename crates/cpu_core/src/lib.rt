@@ -1,13 +1,16 @@
-//! The processor over its memory: the steps that are built, in real mode.
+//! The processor over any memory and any ports: the steps that are built, in real mode.
 //!
-//! The one contract used above: `First::step` makes a step of the written machine, or says that
-//! none is built. Read `mdl_step/specs/Step.antt` first.
+//! The one contract used above: `Cpu::step` makes a step of the written machine for some choice, or
+//! says that none is built. Read `mdl_step/specs/Step.antt` first, then `specs/Machine.antt`.
 #![tactic(auto)]
 
+mod boundary;
 mod code;
-mod first;
-mod flow;
-mod memory;
-mod run;
+mod cpu;
+mod decoding;
+mod dispatch;
+mod execute;
+mod far_jump;
+mod reset;
 
-pub use first::First;
+pub use cpu::Cpu;

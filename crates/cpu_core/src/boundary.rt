@@ -1,0 +1,87 @@
+//! The boundary between two instructions. Manual, chapters 9 and 10.
+
+ghost use Rattle.std.specs.Prelude.{◌≡◌, ℕ};
+ghost use Rattle.mdl_step.specs.Boundary.{takes_nmi, takes_trap, boundary_rows};
+ghost use Rattle.mdl_step.specs.Step.{hold_after, activity_after};
+ghost use Rattle.cpu_core.specs.Rows.{row_of};
+
+use mdl_state::{Activity, Latches, Next};
+
+/// Every interrupt and debug trap is held back for one instruction.
+const HOLD_ALL: u8 = 1;
+
+/// The interrupt line is held back for one instruction.
+const HOLD_INTERRUPTS: u8 = 2;
+
+/// What the next step is.
+#[derive(Clone, Copy)]
+pub(crate) enum Row {
+    Idle,
+    Execute,
+    Deliver,
+}
+
+/// An NMI waits, is not masked, and nothing holds it back.
+fn takes_nmi(latches: &Latches) -> bool
+    ensures { result ≡ takes_nmi latches.now }
+{
+    latches.nmi && !latches.masked && latches.hold != HOLD_ALL
+}
+
+/// A debug trap is pending, and nothing holds it back.
+fn takes_trap(latches: &Latches) -> bool
+    ensures { result ≡ takes_trap latches.now }
+{
+    latches.pending != 0 && latches.hold != HOLD_ALL
+}
+
+/// The first row that holds.
+#[inline(always)]
+pub(crate) fn boundary(activity: Activity, latches: &Latches) -> Row
+    ensures { row_of result ≡ boundary_rows activity latches.now }
+{
+    match activity {
+        Activity::Running => {
+            if takes_trap(latches) || takes_nmi(latches) {
+                Row::Deliver
+            } else {
+                Row::Execute
+            }
+        }
+        Activity::Halted => {
+            if takes_trap(latches) || takes_nmi(latches) {
+                Row::Deliver
+            } else {
+                Row::Idle
+            }
+        }
+        Activity::Shutdown => {
+            if takes_nmi(latches) {
+                Row::Deliver
+            } else {
+                Row::Idle
+            }
+        }
+    }
+}
+
+/// What the processor does after an instruction.
+pub(crate) fn activity_after(next: Next) -> Activity
+    ensures { result ≡ activity_after next }
+{
+    match next {
+        Next::Halt => Activity::Halted,
+        _ => Activity::Running,
+    }
+}
+
+/// What is held back after an instruction.
+pub(crate) fn hold_after(next: Next) -> u8
+    ensures { result ≡ hold_after next }
+{
+    match next {
+        Next::HoldAll => HOLD_ALL,
+        Next::HoldIntr => HOLD_INTERRUPTS,
+        _ => 0,
+    }
+}
