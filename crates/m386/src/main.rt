@@ -13,6 +13,8 @@ mod fault_tests;
 mod file_host;
 mod listing;
 mod machine;
+#[cfg(test)]
+mod machine_tests;
 mod refusals;
 mod report;
 mod rom;

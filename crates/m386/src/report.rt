@@ -10,11 +10,12 @@ ghost use Rattle.host_io.specs.Causes.{HasCause};
 ghost use Rattle.host_io.specs.Transfers.{AppendsPrefix};
 ghost use Rattle.mdl_step.specs.Report.{activity_text, steps_line, state_line, accumulators_line, pointers_line, control_line, segment_line, segment_lines, table_line, debug_line, last_line, register_lines, printed, screen_line, screen_lines, report_text};
 
+use crate::machine::Machine;
 use crate::texts::{ROOM, push_decimal, push_named4, push_named8, push_text};
 use arrayvec::ArrayVec;
-use cpu_core::First;
 use host_io::{Failed, Host, OutSlot, write_all};
 use mdl_state::{Activity, Hidden, Regs};
+use mem_iface::Linear;
 
 /// How many cells the screen's memory has.
 const CELLS: u32 = 0x4000;
@@ -180,14 +181,14 @@ fn push_last(text: &mut ArrayVec<u8, ROOM>, cpl: u8, walks: u64, start: u16, cur
 
 /// The lines of the registers, of a machine that made so many steps and walks.
 #[tactic(auto, unfolding(mdl_step::specs::Report::register_lines))]
-fn register_lines(first: &First, steps: u64, walks: u64) -> ArrayVec<u8, ROOM>
-    requires { first.now.core.steps ≡ steps }
-    ensures { result.items ≡ register_lines first.now walks }
+fn register_lines(machine: &Machine, steps: u64, walks: u64) -> ArrayVec<u8, ROOM>
+    requires { machine.now.state.core.steps ≡ steps }
+    ensures { result.items ≡ register_lines machine.now.state walks }
 {
-    let regs = first.regs();
+    let regs = machine.regs();
     let mut text = ArrayVec::new();
     push_steps(&mut text, steps);
-    push_state(&mut text, first.activity());
+    push_state(&mut text, machine.activity());
     push_accumulators(&mut text, &regs);
     push_pointers(&mut text, &regs);
     push_control(&mut text, &regs);
@@ -214,37 +215,41 @@ fn printed(code: u8) -> u8
 
 /// A row of the screen.
 #[tactic(auto, using(crate::proofs::Screen::rows), unfolding(mdl_step::specs::Report::screen_line))]
-fn push_row(text: &mut ArrayVec<u8, SCREEN_ROOM>, first: &First, start: u16, row: u32)
+fn push_row(text: &mut ArrayVec<u8, SCREEN_ROOM>, machine: &Machine, start: u16, row: u32)
     requires row { row < 25 }
     requires room { array_vec_len text.old + 81 ≤ SCREEN_ROOM }
-    ensures text { text.new.items ≡ text.old.items ++ screen_line first.now.mem.physical start row }
+    ensures text { text.new.items ≡ text.old.items ++ screen_line machine.now.state.mem.physical start row }
     ensures length { array_vec_len text.new ≡ array_vec_len text.old + 81 }
 {
     for column in 0..COLUMNS {
         let cell = (u32::from(start) + (COLUMNS * row + column)) % CELLS;
-        text.push(printed(first.byte(SCREEN_BASE + 2 * cell)));
+        text.push(printed(machine.lin().phys().byte(SCREEN_BASE + 2 * cell)));
     }
     text.push(b'\n');
 }
 
 /// The rows of the screen.
 #[tactic(auto, using(crate::proofs::Screen::rows), unfolding(mdl_step::specs::Report::screen_lines))]
-fn screen_lines(first: &First, start: u16) -> ArrayVec<u8, SCREEN_ROOM>
-    ensures { result.items ≡ screen_lines first.now.mem.physical start }
+fn screen_lines(machine: &Machine, start: u16) -> ArrayVec<u8, SCREEN_ROOM>
+    ensures { result.items ≡ screen_lines machine.now.state.mem.physical start }
 {
     let mut text = ArrayVec::new();
     for row in 0..ROWS {
-        push_row(&mut text, first, start, row);
+        push_row(&mut text, machine, start, row);
     }
     text
 }
 
 /// Writes the report of a machine that made so many steps.
 #[tactic(auto, using(host_io::specs::Prefixes::prefixes), unfolding(mdl_step::specs::Report::report_text))]
-pub(crate) fn write_report<H: Host>(host: &mut H, first: &First, steps: u64) -> Result<(), Failed>
-    requires { first.now.core.steps ≡ steps }
-    ensures ok { OnOk result (Appends (H.took host.old Report) (H.took host.new Report) (report_text first.now first.now.mem.walks)) }
-    ensures err { OnErr result (AppendsPrefix (H.took host.old Report) (H.took host.new Report) (report_text first.now first.now.mem.walks)) }
+pub(crate) fn write_report<H: Host>(
+    host: &mut H,
+    machine: &Machine,
+    steps: u64,
+) -> Result<(), Failed>
+    requires { machine.now.state.core.steps ≡ steps }
+    ensures ok { OnOk result (Appends (H.took host.old Report) (H.took host.new Report) (report_text machine.now.state machine.now.state.mem.walks)) }
+    ensures err { OnErr result (AppendsPrefix (H.took host.old Report) (H.took host.new Report) (report_text machine.now.state machine.now.state.mem.walks)) }
     ensures outputs { SameBut Report (H.took host.old) (H.took host.new) }
     ensures paths { Same (H.path host.old) (H.path host.new) }
     ensures left { Same (H.left host.old) (H.left host.new) }
@@ -253,8 +258,8 @@ pub(crate) fn write_report<H: Host>(host: &mut H, first: &First, steps: u64) -> 
     write_all(
         host,
         OutSlot::Report,
-        register_lines(first, steps, first.walks()).as_slice(),
+        register_lines(machine, steps, machine.lin().walks()).as_slice(),
     )?;
-    write_all(host, OutSlot::Report, screen_lines(first, 0).as_slice())?;
+    write_all(host, OutSlot::Report, screen_lines(machine, 0).as_slice())?;
     Ok(())
 }

@@ -34,14 +34,14 @@ pub(crate) fn run_command<H: Host>(alloc: Global, host: &mut H, job: &RunJob) ->
     ensures unopened { (slot : Slot) → slot ≢ In Rom → slot ≢ Out Report → H.path host.new slot ≡ H.path host.old slot }
 {
     let rom = read_rom(alloc, host, job.path)?;
-    let Ok(mut first) = boot(alloc, rom) else {
+    let Ok(mut machine) = boot(alloc, rom) else {
         return Err(Refusal::Memory);
     };
-    run(&mut first, job.steps)?;
+    run(&mut machine, job.steps)?;
     let Ok(()) = host.open_out(OutSlot::Report, "") else {
         return Err(Refusal::HostFault(Slot::Out(OutSlot::Report)));
     };
-    match write_report(host, &first, job.steps) {
+    match write_report(host, &machine, job.steps) {
         Ok(()) => Ok(()),
         Err(_) => Err(Refusal::Cut),
     }

@@ -76,16 +76,16 @@ fn a_host_that_hands_over_single_bytes_takes_the_same_report(rt: HostRuntime) ->
     Ok(())
 }
 
-// MOV AL,1 and then STC, which is not built.
+// MOV AL,1 and then CLI, which is not built.
 #[test]
 fn a_run_is_unbuilt_where_its_bound_is_past_the_step(rt: HostRuntime) -> Result<(), Fail> {
-    let mut done = host(rt.alloc(), 4096, &[0xB0, 0x01, 0xF9])?;
+    let mut done = host(rt.alloc(), 4096, &[0xB0, 0x01, 0xFA])?;
     assert_eq!(rt; run(rt.alloc(), &mut done, "1"), Status::Done);
-    let mut unbuilt = host(rt.alloc(), 4096, &[0xB0, 0x01, 0xF9])?;
+    let mut unbuilt = host(rt.alloc(), 4096, &[0xB0, 0x01, 0xFA])?;
     assert_eq!(rt; run(rt.alloc(), &mut unbuilt, "2"), Status::Unbuilt);
     assert_eq!(rt;
         unbuilt.taken(OutSlot::Report),
-        "m386: unbuilt step 1 byte f9\n".as_bytes()
+        "m386: unbuilt step 1 byte fa\n".as_bytes()
     );
     Ok(())
 }

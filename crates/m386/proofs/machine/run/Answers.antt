@@ -9,10 +9,10 @@ pub returns-then-not-step-clause-unbuilt : goal.returns-then-not-step-clause-unb
 returns-then-not-step-clause-unbuilt c = let made = c.loop-step.invariant.made in record {
   reaches = record {
     choices = made.choices;
-    last = c.loop-step.first;
+    last = c.loop-step.machine.state;
     before = subst (λ (k : ℕ). k < c.args.steps) (sym made.count) c.loop-step-test.true;
     run = (refl, made.ran);
-    unbuilt = c.if-not-step.ensures.unbuilt;
+    unbuilt = c.if-not-step.ensures.unbuilt meets_any;
   };
   count = sym made.count;
   code = c.code_byte.ensures ∙ ap (λ (s : State). code_byte s.mem.physical s.core.regs 0) c.if-not-step.ensures.unchanged;
@@ -20,6 +20,6 @@ returns-then-not-step-clause-unbuilt c = let made = c.loop-step.invariant.made i
 
 pub loop-step-preserved : goal.loop-step-preserved
 loop-step-preserved c = record {
-  made = steps_more meets_any [] c.loop-step.step c.args.first.now c.loop-step.first c.step.new.self c.loop-step.invariant.made c.if-not-step.ensures.made refl;
+  made = steps_more meets_any [] c.loop-step.step c.args.machine.now.state c.loop-step.machine.state c.step.new.self.state c.loop-step.invariant.made (c.if-not-step.ensures.made meets_any (λ m lin access. refl)) refl;
   count = omega (arith, c.if-not-step.ensures.count, c.loop-step.invariant.count);
 }

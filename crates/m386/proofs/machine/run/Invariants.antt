@@ -5,6 +5,6 @@ use Rattle.m386.proofs.machine.run.Given as goal
 
 abbrev pub invariant-loop-step : goal.invariant-loop-step
 invariant-loop-step l = record {
-  made : StepsFor meets_any l.step [] l.fn.first l.first;
-  count : l.first.core.steps ≡ l.step;
+  made : StepsFor meets_any l.step [] l.fn.machine.state l.machine.state;
+  count : l.machine.state.core.steps ≡ l.step;
 }

@@ -7,5 +7,5 @@ use Rattle.m386.proofs.report.push_row.Goals as goal
 pub returns-clause-text : goal.returns-clause-text
 unfolding screen_line
 returns-clause-text c = row_ended c.args.text.now.items c.loop-column.text.items c.push-2.new.self.items
-    (λ (column : ℕ). printed (byte_at c.args.first.now.mem.physical (cell_address c.args.start (80 * c.args.row + column))))
+    (λ (column : ℕ). printed (byte_at c.args.machine.now.state.mem.physical (cell_address c.args.start (80 * c.args.row + column))))
     c.loop-column.column 80 10 c.push-2.ensures.items c.loop-column.invariant.text (omega arith)

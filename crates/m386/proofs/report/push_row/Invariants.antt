@@ -6,6 +6,6 @@ use Rattle.m386.proofs.report.push_row.Given as goal
 
 abbrev pub invariant-loop-column : goal.invariant-loop-column
 invariant-loop-column l = record {
-  text : l.text.items ≡ l.fn.text.items ++ map (λ (column : ℕ). printed (byte_at l.first.mem.physical (cell_address l.start (80 * l.row + column)))) (range_with_len 0 l.column);
+  text : l.text.items ≡ l.fn.text.items ++ map (λ (column : ℕ). printed (byte_at l.machine.state.mem.physical (cell_address l.start (80 * l.row + column)))) (range_with_len 0 l.column);
   length : length l.text.items ≡ length l.fn.text.items + l.column;
 }

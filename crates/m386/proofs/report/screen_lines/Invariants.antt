@@ -5,6 +5,6 @@ use Rattle.m386.proofs.report.screen_lines.Given as goal
 
 abbrev pub invariant-loop-row : goal.invariant-loop-row
 invariant-loop-row l = record {
-  text : l.text.items ≡ flat_map (screen_line l.first.mem.physical l.start) (range_with_len 0 l.row);
+  text : l.text.items ≡ flat_map (screen_line l.machine.state.mem.physical l.start) (range_with_len 0 l.row);
   length : length l.text.items ≡ 81 * l.row;
 }

@@ -13,6 +13,6 @@ pub returns-in_err-write_all-2-clause-err : goal.returns-in_err-write_all-2-clau
 unfolding report_text
 returns-in_err-write_all-2-clause-err g c = on_err c.from_residual-in_err-write_all-2.result _
     (prefix_then (g.H.Host.took c.args.host.now Report) (g.H.Host.took c.write_all.new.host Report) (g.H.Host.took c.write_all-2.new.host Report)
-    (register_lines c.args.first.now c.args.first.now.mem.walks) (screen_lines c.args.first.now.mem.physical 0)
-    (rw (c.as_slice.ensures.value, c.register_lines.ensures, c.walks.ensures) at c.in_ok-write_all.ensures.ok)
+    (register_lines c.args.machine.now.state c.args.machine.now.state.mem.walks) (screen_lines c.args.machine.now.state.mem.physical 0)
+    (rw (c.as_slice.ensures.value, c.register_lines.ensures, c.walks.ensures, c.lin.ensures) at c.in_ok-write_all.ensures.ok)
     (rw (c.as_slice-2.ensures.value, c.screen_lines.ensures) at c.in_err-write_all-2.ensures.err))
