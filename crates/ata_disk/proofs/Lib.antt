@@ -1,0 +1,5 @@
+pub mod Sectors
+pub mod IdentifyLaws
+pub mod Verified
+pub mod ImageLaws
+pub mod Kept

@@ -1,0 +1,3 @@
+pub mod Sound
+pub mod Counted
+pub mod Stored

@@ -1,0 +1,95 @@
+//! The disk, what always holds of it, and its bytes.
+
+ghost use Rattle.std.specs.Prelude.{◌≡◌, ◌<◌, ◌*◌, ◌/◌, ◌%◌, not, length, slice_index};
+ghost use Rattle.mdl_state.specs.Bytes.{bit};
+ghost use Rattle.mdl_dev.specs.Disk.{DiskState, IsDiskLength, disk_at_boot, answers};
+ghost use Rattle.mdl_dev.specs.DiskImage.{sectors_of};
+ghost use Rattle.mdl_dev.specs.DiskTransfer.{disk_byte};
+ghost use Rattle.ata_disk.specs.Sound.{IsSound};
+
+use crate::registers::{bit, signature};
+use mdl_dev::disk::{
+    DRIVE_ONE, Geometry, NO_INTERRUPT, READY, Registers, SECTOR_BYTES, Transfer, Work,
+};
+use std::marker::Model;
+
+/// The disk, seen as a register file and a list of sectors.
+#[derive(Drop)]
+pub struct Disk {
+    pub(crate) registers: Registers,
+    pub(crate) geometry: Geometry,
+    pub(crate) transfer: Transfer,
+    pub(crate) block: [u8; SECTOR_BYTES],
+    pub(crate) bytes: Vec<u8>,
+}
+
+impl Model for Disk {
+    ghost use Rattle.std.specs.Prelude.{◌≡◌, length};
+    ghost use Rattle.mdl_dev.specs.Disk.{DiskState, IsDiskLength};
+    ghost use Rattle.mdl_dev.specs.DiskImage.{sectors_of};
+    ghost use Rattle.ata_disk.specs.Sound.{seen, IsSound};
+
+    ghost Value = { DiskState };
+
+    ghost view = { λ d. seen d.registers d.geometry d.transfer d.block d.bytes.items };
+
+    ghost invariant = { λ d. IsSound d.geometry d.transfer d.bytes.items };
+}
+
+/// Nothing in work.
+pub(crate) const IDLE: Transfer = Transfer {
+    work: Work::Nothing,
+    left: 0,
+    place: 0,
+    lba: 0,
+};
+
+impl Disk {
+    /// A disk of these bytes, as it is when the machine is switched on. No bytes are no drive.
+    pub fn new(bytes: Vec<u8>) -> Disk
+        requires { IsDiskLength (length bytes.items) }
+        ensures { result ≡ disk_at_boot (sectors_of bytes.items) }
+    {
+        Disk {
+            registers: signature(READY, 0),
+            geometry: Geometry {
+                heads: 16,
+                sectors: 63,
+            },
+            transfer: IDLE,
+            block: [0; SECTOR_BYTES],
+            bytes,
+        }
+    }
+
+    /// How many sectors it has.
+    #[tactic(auto, using(crate::proofs::Sectors::sector_laws))]
+    pub(crate) fn total(&self) -> u32
+        ensures { result ≡ length self.now.sectors }
+    {
+        (self.bytes.len() / SECTOR_BYTES) as u32
+    }
+
+    /// The byte at a place of the disk, counted from its first sector's first byte.
+    #[tactic(auto, using(crate::proofs::Sectors::sector_laws))]
+    pub fn byte(&self, at: u32) -> u8
+        requires { at < SECTOR_BYTES * length self.now.sectors }
+        ensures { result ≡ disk_byte self.now at }
+    {
+        self.bytes[at as usize]
+    }
+
+    /// Whether there is a drive and it is the one chosen.
+    pub(crate) fn answers(&self) -> bool
+        ensures { result ≡ answers self.now }
+    {
+        self.total() > 0 && !bit(self.registers.head, DRIVE_ONE)
+    }
+
+    /// Whether an interrupt is raised where one is due.
+    pub(crate) fn may_raise(&self) -> bool
+        ensures { result ≡ not (bit self.now.registers.control NO_INTERRUPT) }
+    {
+        !bit(self.registers.control, NO_INTERRUPT)
+    }
+}
