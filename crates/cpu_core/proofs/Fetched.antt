@@ -1,5 +1,5 @@
 -- What decoding says of the instruction at CS:EIP, while paging is off.
-use Rattle.std.proofs.Common.{◌≡◌, ℕ, ◌+◌, ◌≤◌, false, List, length, take, refl, sym, ap, subst, ◌∙◌, arith, Result, Ok, Err}
+use Rattle.std.proofs.Common.{◌≡◌, ℕ, false, List, subst, arith}
 use Rattle.mdl_state.specs.declared.Regs.{Regs}
 use Rattle.mdl_state.specs.declared.Fault.{Fault}
 use Rattle.mdl_state.specs.declared.Seg.TheVariants.{Cs}
@@ -16,7 +16,7 @@ use Rattle.insn_decode.specs.Decoded.{Takes, IsUndefined, IsLong, IsCut}
 use Rattle.insn_decode.specs.Slices.{TakesFront}
 use Rattle.insn_decode.proofs.Fronts.{takes_front, undefined_front, long_front, short_front}
 use Rattle.insn_decode.proofs.Only.{only_ok, only_undefined, only_long, only_short}
-use Rattle.cpu_core.specs.Window.{Window, IsAt, rest_of}
+use Rattle.cpu_core.specs.Window.{Window, IsAt, IsPlain, rest_of}
 use Rattle.cpu_core.specs.Executing.{Decodes, DecodesNone, DecodesOnly}
 use Rattle.cpu_core.proofs.Windows.{by_window, came_fetched, plain_takes, plain_undefined, plain_long, plain_cut, Front, front_of}
 
@@ -26,14 +26,14 @@ unfolding seg_of
 started r flags w base limit who offset = record { base = base; limit = limit; who = who; offset = omega (arith, offset) }
 
 -- an instruction that is fetched is the front of the code
-front : (serve : Serve) (r : Regs) (w : Window) (insn : Insn) (count : ℕ) (n : Mem) → IsAt r 0 w → w.mem.paging ≡ false → Decodes serve r w.mem insn count n
+front : (serve : Serve) (r : Regs) (w : Window) (insn : Insn) (count : ℕ) (n : Mem) → IsAt r 0 w → IsPlain w.mem → Decodes serve r w.mem insn count n
     → TakesFront (rest_of w) false insn count × (n ≡ w.mem)
 unfolding fetch_plan
 front serve r w insn count n at off d =
     let f : Front count d.bytes w n = front_of serve r 0 count w d.bytes n at off d.fetched in
     (record { spelt = subst (λ (xs : List ℕ). Spelt xs false insn) f.bytes_are d.spelt; inside = f.inside; within = d.within }, f.same)
 
-module _ {S : Type 0} (pick : Pick) (window : S → Window) (r : Regs) (s e : S) (at : IsAt r 0 (window s)) (off : (window s).mem.paging ≡ false) where
+module _ {S : Type 0} (pick : Pick) (window : S → Window) (r : Regs) (s e : S) (at : IsAt r 0 (window s)) (off : IsPlain (window s).mem) where
   pub decodes : (insn : Insn) (count : ℕ) → Takes (by_window pick window) false s insn count e → Decodes (by_pick pick) r (window s).mem insn count (window e).mem
   unfolding fetch_plan
   decodes insn count t = record {

@@ -5,27 +5,34 @@ use Rattle.mdl_state.specs.Serving.{Serve, Outcome}
 use Rattle.mdl_state.specs.Accesses.{committed, discarded}
 use Rattle.mdl_state.specs.Attempt.{Plan, tried}
 use Rattle.mdl_insn.specs.declared.instruction.Insn.{Insn}
-use Rattle.mdl_step.specs.DataEffects.{runs_data}
-use Rattle.mdl_step.specs.Effects.{runs_flow, runs_string, is_far_jump, is_halt, is_built}
-use Rattle.mdl_step.proofs.Unpaged.{only_held}
+use Rattle.mdl_effect.specs.DataEffects.{runs_data}
+use Rattle.mdl_effect.specs.FlowEffects.{runs_flow}
+use Rattle.mdl_effect.specs.StringEffects.{runs_string}
+use Rattle.mdl_step.specs.Effects.{is_far_jump, is_halt, is_built}
+use Rattle.mdl_step.proofs.Unpaged.{only_held, none_met}
 
 -- ---- attempts
 
-only : {A : Type 0} (serve : Serve) (plan : Plan A) (m n : Mem) (o : Outcome A) → m.paging ≡ false → ◌≡◌ {A = Outcome A × Mem} (o, n) (tried serve 0 plan m) → n ≡ record m { held = n.held }
+only : {A : Type 0} (serve : Serve) (plan : Plan A) (m n : Mem) (o : Outcome A) → m.paging ≡ false → ◌≡◌ {A = Outcome A × Mem} (o, n) (tried serve 0 plan m) → n ≡ record m { held = n.held; hits = n.hits }
 only {A} serve plan m n o off e =
     let there : n ≡ (tried serve 0 plan m).1 = ap (λ (w : Outcome A × Mem). w.1) e in
-    there ∙ only_held serve 0 plan m off ∙ ap (λ (k : Mem). record m { held = k.held }) (sym there)
+    there ∙ only_held serve 0 plan m off ∙ ap (λ (k : Mem). record m { held = k.held; hits = k.hits }) (sym there)
 
 -- what is dropped leaves memory as it was
-pub dropped : {A : Type 0} (serve : Serve) (plan : Plan A) (m n : Mem) (o : Outcome A) → m.paging ≡ false → m.held ≡ [] → ◌≡◌ {A = Outcome A × Mem} (o, n) (tried serve 0 plan m) → discarded n ≡ m
+pub dropped : {A : Type 0} (serve : Serve) (plan : Plan A) (m n : Mem) (o : Outcome A) → m.paging ≡ false → m.watch ≡ [] → m.held ≡ [] → ◌≡◌ {A = Outcome A × Mem} (o, n) (tried serve 0 plan m) → discarded n ≡ m
 unfolding discarded
-dropped serve plan m n o off none e =
-    ap (λ (k : Mem). record k { held = [] }) (only serve plan m n o off e) ∙ ap (λ (h : List (ℕ × ℕ)). record m { held = h }) (sym none)
+dropped {A} serve plan m n o off clear none e =
+    ap (λ (k : Mem). record k { held = [] }) (only serve plan m n o off e) ∙ ap (λ (h : List (ℕ × ℕ)). record m { held = h; hits = n.hits }) (sym none)
+    ∙ ap (λ (h : ℕ). record m { hits = h }) (ap (λ (w : Outcome A × Mem). w.1.hits) e ∙ none_met serve 0 plan m off clear)
 
--- what is placed leaves paging off, and the items
+-- what is placed leaves paging off, the breakpoints and the items
 pub placed_paging : {A : Type 0} (serve : Serve) (plan : Plan A) (m n : Mem) (o : Outcome A) → m.paging ≡ false → ◌≡◌ {A = Outcome A × Mem} (o, n) (tried serve 0 plan m) → (committed n).paging ≡ false
 unfolding committed
 placed_paging serve plan m n o off e = ap (λ (k : Mem). k.paging) (only serve plan m n o off e) ∙ off
+
+pub placed_watch : {A : Type 0} (serve : Serve) (plan : Plan A) (m n : Mem) (o : Outcome A) → m.paging ≡ false → ◌≡◌ {A = Outcome A × Mem} (o, n) (tried serve 0 plan m) → (committed n).watch ≡ m.watch
+unfolding committed
+placed_watch serve plan m n o off e = ap (λ (k : Mem). k.watch) (only serve plan m n o off e)
 
 pub placed_items : {A : Type 0} (serve : Serve) (plan : Plan A) (m n : Mem) (o : Outcome A) → m.paging ≡ false → ◌≡◌ {A = Outcome A × Mem} (o, n) (tried serve 0 plan m) → (committed n).served ≡ m.served
 unfolding committed

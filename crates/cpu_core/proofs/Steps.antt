@@ -1,17 +1,17 @@
 -- Steps by their parts.
-use Rattle.std.proofs.Common.{◌≡◌, ◌≢◌, ℕ, ◌+◌, Bool, true, false, List, [], ◌++◌, refl, sym, ap, subst, ◌∙◌}
+use Rattle.std.proofs.Common.{◌≡◌, ℕ, ◌+◌, Bool, true, false, List, [], ◌++◌, refl, sym, ap, subst, ◌∙◌}
 use Rattle.std.specs.Prelude.{IsTrue, ⊤}
 use Rattle.std.proofs.lemmas.List.{append-nil}
 use Rattle.std.proofs.lemmas.Bool.{false≢true}
 use Rattle.mdl_state.specs.declared.Regs.{Regs}
 use Rattle.mdl_state.specs.declared.Next.{Next}
 use Rattle.mdl_state.specs.declared.Activity.{Activity}
-use Rattle.mdl_state.specs.State.{Mem, Item, Core, State, Choice}
+use Rattle.mdl_state.specs.State.{Mem, Item, State, Choice}
 use Rattle.mdl_state.specs.Serving.{Pick, Policy, Outcome, Passed, Failed, NoStep, by_pick, by_list, with_items}
 use Rattle.mdl_state.specs.Choices.{Meets, Follows, page_follows, tried_follows, attempt_follows, walks_after, walks_after-append}
 use Rattle.mdl_state.specs.Attempt.{Plan, tried, finished, attempt}
 use Rattle.mdl_insn.specs.declared.instruction.Insn.{Insn}
-use Rattle.mdl_step.specs.Operands.{After}
+use Rattle.mdl_effect.specs.Operands.{After}
 use Rattle.mdl_step.specs.Effects.{effect, is_built}
 use Rattle.mdl_step.specs.Fetching.{fetch_plan}
 use Rattle.mdl_step.specs.Boundary as rows

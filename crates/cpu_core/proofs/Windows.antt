@@ -7,21 +7,23 @@ use Rattle.mdl_state.specs.declared.Seg.TheVariants.{Cs}
 use Rattle.mdl_state.specs.declared.Regs.{Regs}
 use Rattle.mdl_state.specs.declared.Who.{Who}
 use Rattle.mdl_state.specs.declared.Fault.{Fault}
+use Rattle.mdl_state.specs.declared.Watch.{Watch}
+use Rattle.mdl_state.specs.declared.Access.TheVariants.{Read}
+use Rattle.mdl_state.specs.Watches.{hits_after, noted}
 use Rattle.mdl_state.specs.State.{Mem}
 use Rattle.mdl_state.specs.Registers.{seg_of}
-use Rattle.mdl_state.specs.Serving.{Pick, Serve, Outcome, Passed, Failed, NoStep, by_pick, on, outcome}
-use Rattle.mdl_state.specs.Accesses.{read_at}
+use Rattle.mdl_state.specs.Serving.{Pick, Serve, Outcome, Passed, Failed, NoStep, by_pick, on}
 use Rattle.mdl_state.specs.Attempt.{Plan, Done, Fail, Load, then_plan, tried}
 use Rattle.mdl_state.specs.AttemptLaws.{tried-then_plan}
 use Rattle.mdl_cpu.specs.Segments.{who_of}
-use Rattle.mdl_step.specs.FlowEffects.{general_protection}
-use Rattle.mdl_step.specs.Fetching.{code_at, fetched_from}
+use Rattle.mdl_cpu.specs.Faults.{general_protection}
+use Rattle.mdl_step.specs.Fetching.{fetched_from}
 use Rattle.mdl_step.proofs.Unpaged.{plain_read}
 use Rattle.insn_decode.specs.Decoded.{Came, Takes, IsUndefined, IsLong, IsCut}
 use Rattle.insn_decode.specs.Slices.{gives_byte}
 use Rattle.insn_decode.proofs.Fronts.{by_view}
 use Rattle.mdl_insn.specs.declared.instruction.Insn.{Insn}
-use Rattle.cpu_core.specs.Window.{Window, linear, byte_plan, Gives, IsAt, plain_byte, plain_bytes, rest_of}
+use Rattle.cpu_core.specs.Window.{Window, linear, byte_plan, Gives, IsAt, IsPlain, plain_byte, plain_bytes, rest_of}
 
 -- ---- one byte
 
@@ -79,11 +81,14 @@ came_fetched pick window r n s (b ∷ bytes) e at came =
 abbrev plain_try : Window → Outcome ℕ × Mem
 plain_try w = if nat_le w.offset w.limit then (Passed (plain_byte w.mem (linear w)), w.mem) else (Failed (general_protection 0), w.mem)
 
-plain_tried : (serve : Serve) (w : Window) → w.mem.paging ≡ false → tried serve 0 (byte_plan w) w.mem ≡ plain_try w
+noted_none : (m : Mem) (lin : ℕ) (who : Who) → m.watch ≡ [] → noted m lin B1 (Read who) ≡ m
+noted_none m lin who none = ap (λ (ws : List Watch). record m { hits = hits_after ws lin B1 (Read who) m.hits }) none
+
+plain_tried : (serve : Serve) (w : Window) → IsPlain w.mem → tried serve 0 (byte_plan w) w.mem ≡ plain_try w
 plain_tried serve w off = by_limit (nat_le w.offset w.limit) refl
   where
     by_limit : (v : Bool) → nat_le w.offset w.limit ≡ v → tried serve 0 (byte_plan w) w.mem ≡ plain_try w
-    by_limit true e = rw e (rw (plain_read serve w.mem (linear w) B1 w.who off) refl)
+    by_limit true e = rw e (rw (plain_read serve w.mem (linear w) B1 w.who off.0) (ap (λ (n : Mem). (Passed (plain_byte w.mem (linear w)), n)) (noted_none w.mem (linear w) w.who off.1)))
     by_limit false e = rw e refl
 
 abbrev IsPassed : {A : Type 0} → Outcome A × Mem → Type 0
@@ -126,7 +131,7 @@ given_rest pick w v byte g same = let next : v.offset ≡ w.offset + 1 = g.next 
 kept_rest : (pick : Pick) (w v : Window) (fault : Fault) → Gives pick w (Err fault) v → w.limit < w.offset → rest_of v ≡ []
 kept_rest pick w v fault g lt = let stays : v.offset ≡ w.offset = g.stays in rest_none v (rw (g.limit, stays) lt)
 
-pub plain_gives : (pick : Pick) (w v : Window) (r : Result ℕ Fault) → Gives pick w r v → w.mem.paging ≡ false → gives_byte (rest_of w) r (rest_of v) × (v.mem ≡ w.mem)
+pub plain_gives : (pick : Pick) (w v : Window) (r : Result ℕ Fault) → Gives pick w r v → IsPlain w.mem → gives_byte (rest_of w) r (rest_of v) × (v.mem ≡ w.mem)
 plain_gives pick w v (Ok byte) g off = by_limit (nat_le w.offset w.limit) refl
   where
     by_limit : (t : Bool) → nat_le w.offset w.limit ≡ t → (rest_of w ≡ byte ∷ rest_of v) × (v.mem ≡ w.mem)
@@ -154,33 +159,33 @@ module _ {S : Type 0} (pick : Pick) (window : S → Window) where
   abbrev View : S → List ℕ
   View s = rest_of (window s)
 
-  pub plain_came : (s : S) (bytes : List ℕ) (e : S) → Came (by_window pick window) s bytes e → (window s).mem.paging ≡ false → Came (by_view View) s bytes e × ((window e).mem ≡ (window s).mem)
+  pub plain_came : (s : S) (bytes : List ℕ) (e : S) → Came (by_window pick window) s bytes e → IsPlain (window s).mem → Came (by_view View) s bytes e × ((window e).mem ≡ (window s).mem)
   plain_came s [] e came off = (came, ap (λ (t : S). (window t).mem) came)
   plain_came s (b ∷ bytes) e came off =
       let mid = came.0 in
       let one = plain_gives pick (window s) (window mid) (Ok b) came.1 off in
-      let more = plain_came mid bytes e came.2 (ap (λ (m : Mem). m.paging) one.1 ∙ off) in
+      let more = plain_came mid bytes e came.2 (subst IsPlain (sym one.1) off) in
       ((mid, one.0, more.0), more.1 ∙ one.1)
 
-  pub plain_takes : (big : Bool) (s : S) (i : Insn) (len : ℕ) (e : S) → Takes (by_window pick window) big s i len e → (window s).mem.paging ≡ false → Takes (by_view View) big s i len e × ((window e).mem ≡ (window s).mem)
+  pub plain_takes : (big : Bool) (s : S) (i : Insn) (len : ℕ) (e : S) → Takes (by_window pick window) big s i len e → IsPlain (window s).mem → Takes (by_view View) big s i len e × ((window e).mem ≡ (window s).mem)
   plain_takes big s i len e t off =
       let came = plain_came s t.bytes e t.came off in
       (record { bytes = t.bytes; came = came.0; spelt = t.spelt; len_is = t.len_is; within = t.within }, came.1)
 
-  pub plain_undefined : (big : Bool) (s e : S) → IsUndefined (by_window pick window) big s e → (window s).mem.paging ≡ false → IsUndefined (by_view View) big s e × ((window e).mem ≡ (window s).mem)
+  pub plain_undefined : (big : Bool) (s e : S) → IsUndefined (by_window pick window) big s e → IsPlain (window s).mem → IsUndefined (by_view View) big s e × ((window e).mem ≡ (window s).mem)
   plain_undefined big s e t off =
       let came = plain_came s (t.front ++ t.last ∷ []) e t.came off in
       (record { front = t.front; last = t.last; came = came.0; begun = t.begun; not_begun = t.not_begun; not_spelt = t.not_spelt; within = t.within }, came.1)
 
-  pub plain_long : (big : Bool) (s e : S) → IsLong (by_window pick window) big s e → (window s).mem.paging ≡ false → IsLong (by_view View) big s e × ((window e).mem ≡ (window s).mem)
+  pub plain_long : (big : Bool) (s e : S) → IsLong (by_window pick window) big s e → IsPlain (window s).mem → IsLong (by_view View) big s e × ((window e).mem ≡ (window s).mem)
   plain_long big s e t off =
       let came = plain_came s t.bytes e t.came off in
       (record { bytes = t.bytes; came = came.0; begun = t.begun; len_is = t.len_is }, came.1)
 
-  pub plain_cut : (big : Bool) (s : S) (fault : Fault) (e : S) → IsCut (by_window pick window) big s fault e → (window s).mem.paging ≡ false → IsCut (by_view View) big s fault e × ((window e).mem ≡ (window s).mem)
+  pub plain_cut : (big : Bool) (s : S) (fault : Fault) (e : S) → IsCut (by_window pick window) big s fault e → IsPlain (window s).mem → IsCut (by_view View) big s fault e × ((window e).mem ≡ (window s).mem)
   plain_cut big s fault e t off =
       let came = plain_came s t.bytes t.mid t.came off in
-      let last = plain_gives pick (window t.mid) (window e) (Err fault) t.fails (ap (λ (m : Mem). m.paging) came.1 ∙ off) in
+      let last = plain_gives pick (window t.mid) (window e) (Err fault) t.fails (subst IsPlain (sym came.1) off) in
       (record { bytes = t.bytes; mid = t.mid; came = came.0; begun = t.begun; within = t.within; fails = last.0 }, last.1 ∙ came.1)
 
 -- ---- what is fetched while paging is off
@@ -202,7 +207,7 @@ pub record Front (count : ℕ) (bytes : List ℕ) (w : Window) (m : Mem) : Type 
   pub bytes_are : bytes ≡ take count (rest_of w)
   pub same : m ≡ w.mem
 
-pub front_of : (serve : Serve) (r : Regs) (n count : ℕ) (w : Window) (bytes : List ℕ) (m : Mem) → IsAt r n w → w.mem.paging ≡ false
+pub front_of : (serve : Serve) (r : Regs) (n count : ℕ) (w : Window) (bytes : List ℕ) (m : Mem) → IsAt r n w → IsPlain w.mem
     → tried serve 0 (fetched_from r n count) w.mem ≡ (Passed bytes, m) → Front count bytes w m
 front_of serve r n zero w bytes m at off e = record { inside = omega arith; bytes_are = sym (same_passed [] bytes w.mem m e); same = sym (ap (λ x. x.1) e) }
 front_of serve r n (suc count) w bytes m at off e = by_limit (nat_le w.offset w.limit) refl (λ rest there passed. front_of serve r (n + 1) count (record w { offset = w.offset + 1 }) rest m there off passed)

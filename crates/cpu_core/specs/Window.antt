@@ -1,5 +1,5 @@
 -- Code as it is fetched from memory, one byte after the other. Manual, chapter 6.
-use Rattle.std.specs.Prelude.{◌≡◌, ℕ, zero, suc, ◌+◌, ◌-◌, ◌%◌, ◌^◌, nat_le, if◌then◌else◌, List, [], ◌∷◌, Result, OnOk, OnErr}
+use Rattle.std.specs.Prelude.{◌≡◌, ℕ, zero, suc, false, ◌+◌, ◌-◌, ◌%◌, ◌^◌, nat_le, if◌then◌else◌, List, [], ◌∷◌, Result, OnOk, OnErr}
 use Rattle.mdl_state.specs.declared.Size.TheVariants.{B1}
 use Rattle.mdl_state.specs.declared.Seg.TheVariants.{Cs}
 use Rattle.mdl_state.specs.declared.Regs.{Regs}
@@ -11,7 +11,7 @@ use Rattle.mdl_state.specs.Serving.{Pick, by_pick, outcome}
 use Rattle.mdl_state.specs.Accesses.{got}
 use Rattle.mdl_state.specs.Attempt.{Plan, Done, Fail, Load, tried}
 use Rattle.mdl_cpu.specs.Segments.{who_of}
-use Rattle.mdl_step.specs.FlowEffects.{general_protection}
+use Rattle.mdl_cpu.specs.Faults.{general_protection}
 use Rattle.mdl_step.proofs.Unpaged.{plain_place}
 
 -- the base and the limit of CS, for whom code is read, the offset of the next byte, and memory
@@ -46,7 +46,10 @@ pub record IsAt (r : Regs) (n : ℕ) (w : Window) : Type 0 where
   pub who : w.who ≡ who_of r
   pub offset : w.offset ≡ r.eip + n
 
--- ---- the code while paging is off
+-- ---- the code while paging is off and no breakpoint is looked for
+
+abbrev pub IsPlain : Mem → Type 0
+IsPlain m = (m.paging ≡ false) × (m.watch ≡ [])
 
 -- the byte at a linear address
 abbrev pub plain_byte : Mem → ℕ → ℕ

@@ -30,7 +30,8 @@ use std::marker::Model;
 /// The processor over a memory and over ports, seen as the machine beside its ports.
 ///
 /// The status flags are kept apart from EFLAGS, and `insn` is the place of the instruction that is
-/// decoded. Paging is off, nothing is held, and no items are left.
+/// decoded. Paging is off, nothing is held, no items are left, and no
+/// breakpoint is looked for.
 #[derive(Drop)]
 pub struct Cpu<L: Linear, P: Ports> {
     regs: Regs,
@@ -62,7 +63,7 @@ impl<L: Linear, P: Ports> Model for Cpu<L, P> {
       ports = p.ports;
     } };
 
-    ghost invariant = { λ p. ((L.seen p.code.lin).paging ≡ false) × ((L.seen p.code.lin).held ≡ []) × ((L.seen p.code.lin).served ≡ []) };
+    ghost invariant = { λ p. ((L.seen p.code.lin).paging ≡ false) × ((L.seen p.code.lin).held ≡ []) × ((L.seen p.code.lin).served ≡ []) × ((L.seen p.code.lin).watch ≡ []) };
 }
 
 impl<L: Linear, P: Ports> Cpu<L, P> {
@@ -72,6 +73,7 @@ impl<L: Linear, P: Ports> Cpu<L, P> {
         requires unpaged { (L.seen lin).paging ≡ false }
         requires unheld { (L.seen lin).held ≡ [] }
         requires items { (L.seen lin).served ≡ [] }
+        requires unwatched { (L.seen lin).watch ≡ [] }
         ensures core { result.state.core ≡ reset_core }
         ensures memory { result.state.mem ≡ L.seen lin }
         ensures ports { result.ports ≡ ports }

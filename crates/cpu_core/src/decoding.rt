@@ -1,6 +1,6 @@
 //! The instruction at CS:EIP.
 
-ghost use Rattle.std.specs.Prelude.{◌≡◌, ℕ, false, IfSome, IfNone};
+ghost use Rattle.std.specs.Prelude.{◌≡◌, ℕ, false, [], IfSome, IfNone};
 ghost use Rattle.mdl_state.specs.Serving.{by_pick};
 ghost use Rattle.operands.specs.Whole.{whole};
 ghost use Rattle.cpu_core.specs.Executing.{Decodes, DecodesNone, DecodesOnly};
@@ -15,6 +15,7 @@ use mem_iface::Linear;
 /// none.
 pub(crate) fn decode<L: Linear>(code: &mut Code<L>, regs: &Regs, insn: &mut Insn) -> Option<u8>
     requires unpaged { (L.seen code.old.lin).paging ≡ false }
+    requires unwatched { (L.seen code.old.lin).watch ≡ [] }
     ensures found { IfSome result (λ count. (flags : ℕ) →
         Decodes (by_pick L.pick) (whole regs.now flags) (L.seen code.old.lin) insn.new count (L.seen code.new.lin)) }
     ensures only { IfSome result (λ count. (flags : ℕ) → DecodesOnly (whole regs.now flags) (L.seen code.old.lin) insn.new count) }

@@ -59,6 +59,7 @@ pub(crate) fn execute<L: Linear>(
     requires spelt { (bytes : List ℕ) × (big : Bool) × Spelt bytes big insn.now }
     requires mode { IsTrue (is_plain_mode (whole regs.old flags.old)) }
     requires unpaged { (L.seen lin.old).paging ≡ false }
+    requires unwatched { (L.seen lin.old).watch ≡ [] }
     requires held { (L.seen lin.old).held ≡ [] }
     ensures passes { IfSome result (λ next. Passes L.pick insn.now (whole regs.old flags.old) back (L.seen lin.old)
         (whole regs.new flags.new) next (L.seen lin.new)) }
@@ -66,6 +67,7 @@ pub(crate) fn execute<L: Linear>(
     ensures unchanged { IfNone result ((regs.new ≡ regs.old) × (flags.new ≡ flags.old) × (L.seen lin.new ≡ L.seen lin.old)) }
     ensures held_new { (L.seen lin.new).held ≡ [] }
     ensures rest { (L.seen lin.new).paging ≡ false }
+    ensures watch { (L.seen lin.new).watch ≡ [] }
     ensures items { (L.seen lin.new).served ≡ (L.seen lin.old).served }
 {
     match run(regs, flags, lin, insn, back) {

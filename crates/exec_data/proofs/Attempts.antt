@@ -7,10 +7,7 @@ use Rattle.mdl_state.specs.State.{Mem}
 use Rattle.mdl_state.specs.Serving.{Serve}
 use Rattle.mdl_state.specs.Attempt.{tried}
 use Rattle.mdl_insn.specs.declared.instruction.Insn.{Insn}
-use Rattle.mdl_step.specs.DataEffects.{data_effect}
-use Rattle.mdl_step.specs.Effects.{effect, is_plain_data}
-use Rattle.mdl_step.proofs.FormLaws.{plain_runs}
-use Rattle.mdl_step.proofs.EffectLaws.{effect_data}
+use Rattle.mdl_effect.specs.DataEffects.{data_effect}
 use Rattle.operands.specs.Whole.{after, done}
 
 tried_done : (serve : Serve) (given : ℕ) (result : Result (Unit {0}) Fault) (r : Regs) (m : Mem) → tried serve given (done result r) m ≡ (after result r, m)
@@ -18,13 +15,9 @@ tried_done serve given (Ok _) r m = refl
 tried_done serve given (Err fault) r m = refl
 
 -- what an instruction leaves as a plan, it leaves in each attempt
-pub attempted : (insn : Insn) (result : Result (Unit {0}) Fault) (old new : Regs) (free : ℕ) → is_plain_data insn ≡ true
+pub attempted : (insn : Insn) (result : Result (Unit {0}) Fault) (old new : Regs) (free : ℕ)
     → done result new ≡ data_effect insn old free
-    → (serve : Serve) (given back : ℕ) (m : Mem) → (after result new, m) ≡ tried serve given (effect insn old back free) m
-attempted insn result old new free plain plan serve given back m =
-    sym (tried_done serve given result new m)
-    ∙ ap (λ p. tried serve given p m) (plan ∙ sym (effect_data insn old back free (plain_runs insn plain)))
+    → (serve : Serve) (given : ℕ) (m : Mem) → (after result new, m) ≡ tried serve given (data_effect insn old free) m
+attempted insn result old new free plan serve given m = sym (tried_done serve given result new m) ∙ ap (λ p. tried serve given p m) plan
 
 pub ruleset attempts = (attempted)
-
-pub ruleset effects = (effect_data)

@@ -4,11 +4,11 @@ use Rattle.mdl_state.specs.declared.Regs.{Regs}
 use Rattle.mdl_insn.specs.declared.instruction.Insn.{Insn}
 use Rattle.mdl_insn.specs.declared.mnemonics.Op.{Op}
 use Rattle.mdl_insn.specs.declared.mnemonics.Op.TheVariants as ops
-use Rattle.mdl_step.specs.Operands.{is_plain}
-use Rattle.mdl_step.specs.Moves.{mov_plan}
-use Rattle.mdl_step.specs.DataEffects.{is_data, by_mnemonic, data_effect}
-use Rattle.mdl_step.specs.Effects.{is_plain_data}
-use Rattle.mdl_step.specs.Forms.{IsMove, IsFormedAs}
+use Rattle.mdl_effect.specs.Operands.{is_plain}
+use Rattle.mdl_effect.specs.Moves.{mov_plan}
+use Rattle.mdl_effect.specs.DataEffects.{is_data, by_mnemonic, data_effect}
+use Rattle.mdl_effect.specs.DataEffects.{is_plain_data}
+use Rattle.mdl_effect.specs.Forms.{IsMove, IsFormedAs}
 use Rattle.exec_data.specs.Places.{is_placed}
 use Rattle.exec_data.specs.Reads.{is_move}
 

@@ -20,10 +20,10 @@ use Rattle.mdl_insn.specs.Addresses.{mod_of, rm_of}
 use Rattle.mdl_insn.specs.Operands.{operand, Place, place, e_operand}
 use Rattle.mdl_insn.specs.Prefixes.{has, operand_size_prefix, setting}
 use Rattle.mdl_insn.specs.Spelling.{size_of, insn_of, opcode_last, SpeltRow, Spelt}
-use Rattle.mdl_step.specs.DataEffects.{is_data}
-use Rattle.mdl_step.specs.Operands.{is_plain, is_nothing, is_segment}
-use Rattle.mdl_step.specs.Effects.{is_plain_data}
-use Rattle.mdl_step.proofs.RowTests.{row_tested}
+use Rattle.mdl_effect.specs.DataEffects.{is_data}
+use Rattle.mdl_effect.specs.Operands.{is_plain, is_nothing, is_segment}
+use Rattle.mdl_effect.specs.DataEffects.{is_plain_data}
+use Rattle.mdl_effect.proofs.RowTests.{row_tested}
 use Rattle.exec_data.specs.Places.{placed, is_placed}
 use Rattle.exec_data.specs.Reads.{reads_second, is_move}
 

@@ -14,13 +14,13 @@ use Rattle.mdl_insn.specs.declared.instruction.Operand.{Operand}
 use Rattle.mdl_insn.specs.declared.instruction.Operand.TheVariants.{At, Imm}
 use Rattle.mdl_insn.specs.declared.mnemonics.Op.{Op}
 use Rattle.mdl_insn.specs.declared.mnemonics.Op.TheVariants as ops
-use Rattle.mdl_step.specs.Operands.{After, is_plain, is_nothing, size_of, memory_read}
-use Rattle.mdl_step.specs.Moves.{move_plan, sign_extend_plan}
-use Rattle.mdl_step.specs.Arithmetic.{binary_plan, compare_plan, multiply_plan, signed_multiply_plan, divide_plan, signed_divide_plan}
-use Rattle.mdl_step.specs.Shifts.{scan_plan}
-use Rattle.mdl_step.specs.DataEffects.{is_data, by_mnemonic, data_effect}
-use Rattle.mdl_step.specs.Effects.{is_plain_data}
-use Rattle.mdl_step.specs.Forms.{IsOf, IsWithin, IsFormedAs}
+use Rattle.mdl_effect.specs.Operands.{After, is_plain, is_nothing, size_of, memory_read}
+use Rattle.mdl_effect.specs.Moves.{move_plan, sign_extend_plan}
+use Rattle.mdl_effect.specs.Arithmetic.{binary_plan, compare_plan, multiply_plan, signed_multiply_plan, divide_plan, signed_divide_plan}
+use Rattle.mdl_effect.specs.Shifts.{scan_plan}
+use Rattle.mdl_effect.specs.DataEffects.{is_data, by_mnemonic, data_effect}
+use Rattle.mdl_effect.specs.DataEffects.{is_plain_data}
+use Rattle.mdl_effect.specs.Forms.{IsOf, IsWithin, IsFormedAs}
 use Rattle.operands.specs.Whole.{after, done}
 use Rattle.operands.specs.Memory.{is_memory}
 use Rattle.exec_data.proofs.PlaceLaws.{not_nothing}

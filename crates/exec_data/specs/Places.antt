@@ -3,7 +3,7 @@ use Rattle.std.specs.Prelude.{◌&&◌, ◌||◌, Bool, true, false}
 use Rattle.mdl_insn.specs.declared.instruction.Insn.{Insn}
 use Rattle.mdl_insn.specs.declared.mnemonics.Op.{Op}
 use Rattle.mdl_insn.specs.declared.mnemonics.Op.TheVariants as ops
-use Rattle.mdl_step.specs.Operands.{is_plain, is_nothing}
+use Rattle.mdl_effect.specs.Operands.{is_plain, is_nothing}
 
 -- of a mnemonic whose first operand is plain or not, its second is, and its second is nothing or not
 abbrev pub placed : Op → Bool → Bool → Bool → Bool

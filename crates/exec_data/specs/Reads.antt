@@ -4,7 +4,7 @@ use Rattle.mdl_insn.specs.declared.instruction.Insn.{Insn}
 use Rattle.mdl_insn.specs.declared.instruction.Operand.TheVariants.{Imm}
 use Rattle.mdl_insn.specs.declared.mnemonics.Op.{Op}
 use Rattle.mdl_insn.specs.declared.mnemonics.Op.TheVariants as ops
-use Rattle.mdl_step.specs.Operands.{size_of}
+use Rattle.mdl_effect.specs.Operands.{size_of}
 
 -- the mnemonics that read their second operand before anything else
 abbrev pub reads_second : Op → Bool

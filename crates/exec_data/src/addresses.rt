@@ -7,8 +7,8 @@ ghost use Rattle.mdl_state.specs.Serving.{by_pick};
 ghost use Rattle.mdl_state.specs.Accesses.{Keeps};
 ghost use Rattle.mdl_state.specs.Attempt.{tried};
 ghost use Rattle.mdl_cpu.specs.Addresses.{part_of, offset_bound, HasAddress};
-ghost use Rattle.mdl_step.specs.Moves.{lea_plan, xlat_plan};
-ghost use Rattle.mdl_step.specs.Forms.{IsOf};
+ghost use Rattle.mdl_effect.specs.Moves.{lea_plan, xlat_plan};
+ghost use Rattle.mdl_effect.specs.Forms.{IsOf};
 ghost use Rattle.operands.specs.Whole.{whole, after, KeepsOther};
 
 use mdl_insn::{Insn, Operand};
@@ -18,7 +18,7 @@ use mem_iface::Linear;
 use operands::{ACCUMULATOR, BASE, cut, load, no_such, offset, reg, set, set_reg};
 
 /// LEA. Nothing is checked.
-#[tactic(auto, unfolding(mdl_step::specs::Moves::lea_plan))]
+#[tactic(auto, unfolding(mdl_effect::specs::Moves::lea_plan))]
 pub(crate) fn load_address<L: Linear>(
     regs: &mut Regs,
     lin: &mut L,
@@ -52,7 +52,7 @@ fn table_offset(regs: &Regs, wide: bool) -> u32
 }
 
 /// XLAT.
-#[tactic(auto, using(mdl_state::specs::Rules::attempts), unfolding(mdl_step::specs::Moves::xlat_plan))]
+#[tactic(auto, using(mdl_state::specs::Rules::attempts), unfolding(mdl_effect::specs::Moves::xlat_plan))]
 pub(crate) fn translate_byte<L: Linear>(
     regs: &mut Regs,
     lin: &mut L,

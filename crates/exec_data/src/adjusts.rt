@@ -3,8 +3,8 @@
 ghost use Rattle.std.specs.Prelude.{◌≡◌, ◌<◌, ◌^◌, IfErr, OnErr};
 ghost use Rattle.mdl_state.specs.declared.Size.TheVariants.{B1};
 ghost use Rattle.mdl_num.specs.Flags.{flags_after};
-ghost use Rattle.mdl_step.specs.Operands.{follow};
-ghost use Rattle.mdl_step.specs.Arithmetic.{divide_error, adjust, adjust_plan, digits_plan, from_digits_plan};
+ghost use Rattle.mdl_effect.specs.Operands.{follow};
+ghost use Rattle.mdl_effect.specs.Arithmetic.{divide_error, adjust, adjust_plan, digits_plan, from_digits_plan};
 ghost use Rattle.operands.specs.Whole.{whole, done, IsPlainOf, KeepsOther};
 
 use crate::products::divide_error;
@@ -33,7 +33,7 @@ fn adjusted(op: Op, ax: u32, flags: u32) -> Alu
 }
 
 /// DAA, DAS, AAA and AAS.
-#[tactic(auto, unfolding(mdl_step::specs::Arithmetic::adjust_plan))]
+#[tactic(auto, unfolding(mdl_effect::specs::Arithmetic::adjust_plan))]
 pub(crate) fn adjust(regs: &mut Regs, flags: &mut Flags, insn: &Insn)
     ensures plan { follow (whole regs.new flags.new)
         ≡ adjust_plan insn.now (whole regs.old flags.old) (whole regs.new flags.new).eflags }
@@ -46,7 +46,7 @@ pub(crate) fn adjust(regs: &mut Regs, flags: &mut Flags, insn: &Insn)
 }
 
 /// AAM.
-#[tactic(auto, unfolding(mdl_step::specs::Arithmetic::digits_plan))]
+#[tactic(auto, unfolding(mdl_effect::specs::Arithmetic::digits_plan))]
 pub(crate) fn digits(regs: &mut Regs, flags: &mut Flags, insn: &Insn) -> Result<(), Fault>
     requires { IsPlainOf B1 insn.now.a }
     ensures plan { done result (whole regs.new flags.new)
@@ -68,7 +68,7 @@ pub(crate) fn digits(regs: &mut Regs, flags: &mut Flags, insn: &Insn) -> Result<
 }
 
 /// AAD.
-#[tactic(auto, unfolding(mdl_step::specs::Arithmetic::from_digits_plan))]
+#[tactic(auto, unfolding(mdl_effect::specs::Arithmetic::from_digits_plan))]
 pub(crate) fn from_digits(regs: &mut Regs, flags: &mut Flags, insn: &Insn)
     requires { IsPlainOf B1 insn.now.a }
     ensures plan { follow (whole regs.new flags.new)

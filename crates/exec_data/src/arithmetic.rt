@@ -8,8 +8,8 @@ ghost use Rattle.mdl_state.specs.Attempt.{tried};
 ghost use Rattle.mdl_num.specs.Flags.{flags_after};
 ghost use Rattle.mdl_num.specs.Sums.{sum_value, difference_value, logic_value, logic_status};
 ghost use Rattle.lazy_flags.specs.Keeper.{with_status};
-ghost use Rattle.mdl_step.specs.Operands.{follow};
-ghost use Rattle.mdl_step.specs.Arithmetic.{binary, unary, binary_plan, compare_plan, unary_plan};
+ghost use Rattle.mdl_effect.specs.Operands.{follow};
+ghost use Rattle.mdl_effect.specs.Arithmetic.{binary, unary, binary_plan, compare_plan, unary_plan};
 ghost use Rattle.operands.specs.Whole.{whole, after, IsPlainOf, KeepsOther};
 ghost use Rattle.operands.specs.Memory.{IsMemoryOf};
 
@@ -130,7 +130,7 @@ fn unary(op: Op, size: Size, a: u32, flags: &mut Flags) -> u32
 }
 
 /// ADD, OR, ADC, SBB, AND, SUB and XOR.
-#[tactic(auto, unfolding(mdl_step::specs::Arithmetic::binary_plan))]
+#[tactic(auto, unfolding(mdl_effect::specs::Arithmetic::binary_plan))]
 pub(crate) fn combine(regs: &mut Regs, flags: &mut Flags, insn: &Insn)
     requires a { IsPlainOf insn.now.size insn.now.a }
     requires b { IsPlainOf insn.now.size insn.now.b }
@@ -145,7 +145,7 @@ pub(crate) fn combine(regs: &mut Regs, flags: &mut Flags, insn: &Insn)
 }
 
 /// CMP and TEST: the flags alone.
-#[tactic(auto, unfolding(mdl_step::specs::Arithmetic::compare_plan))]
+#[tactic(auto, unfolding(mdl_effect::specs::Arithmetic::compare_plan))]
 pub(crate) fn compare(regs: &Regs, flags: &mut Flags, insn: &Insn)
     requires a { IsPlainOf insn.now.size insn.now.a }
     requires b { IsPlainOf insn.now.size insn.now.b }
@@ -158,7 +158,7 @@ pub(crate) fn compare(regs: &Regs, flags: &mut Flags, insn: &Insn)
 }
 
 /// INC, DEC, NEG and NOT.
-#[tactic(auto, unfolding(mdl_step::specs::Arithmetic::unary_plan))]
+#[tactic(auto, unfolding(mdl_effect::specs::Arithmetic::unary_plan))]
 pub(crate) fn change(regs: &mut Regs, flags: &mut Flags, insn: &Insn)
     requires { IsPlainOf insn.now.size insn.now.a }
     ensures plan { follow (whole regs.new flags.new)
@@ -171,7 +171,7 @@ pub(crate) fn change(regs: &mut Regs, flags: &mut Flags, insn: &Insn)
 }
 
 /// ADD, OR, ADC, SBB, AND, SUB and XOR in memory.
-#[tactic(auto, unfolding(mdl_step::specs::Arithmetic::binary_plan))]
+#[tactic(auto, unfolding(mdl_effect::specs::Arithmetic::binary_plan))]
 pub(crate) fn combine_memory<L: Linear>(
     regs: &Regs,
     flags: &mut Flags,
@@ -195,7 +195,7 @@ pub(crate) fn combine_memory<L: Linear>(
 }
 
 /// INC, DEC, NEG and NOT in memory.
-#[tactic(auto, unfolding(mdl_step::specs::Arithmetic::unary_plan))]
+#[tactic(auto, unfolding(mdl_effect::specs::Arithmetic::unary_plan))]
 pub(crate) fn change_memory<L: Linear>(
     regs: &Regs,
     flags: &mut Flags,

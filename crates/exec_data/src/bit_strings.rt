@@ -7,9 +7,9 @@ ghost use Rattle.mdl_state.specs.Serving.{by_pick, outcome, Failed};
 ghost use Rattle.mdl_state.specs.Accesses.{Keeps, HasRoom, IsPlace};
 ghost use Rattle.mdl_state.specs.Attempt.{tried};
 ghost use Rattle.mdl_cpu.specs.Addresses.{IsAddress, HasAddress};
-ghost use Rattle.mdl_step.specs.Operands.{Made};
-ghost use Rattle.mdl_step.specs.Shifts.{bit_distance, bit_offset, bit_read, bit_change, bit_test_plan, bit_change_plan};
-ghost use Rattle.mdl_step.specs.Forms.{IsOf};
+ghost use Rattle.mdl_effect.specs.Operands.{Made};
+ghost use Rattle.mdl_effect.specs.Shifts.{bit_distance, bit_offset, bit_read, bit_change, bit_test_plan, bit_change_plan};
+ghost use Rattle.mdl_effect.specs.Forms.{IsOf};
 ghost use Rattle.operands.specs.Whole.{whole, after, IsPlainWithin};
 ghost use Rattle.operands.specs.Memory.{IsMemoryOf, changed};
 
@@ -90,7 +90,7 @@ fn bit_open<L: Linear>(regs: &Regs, lin: &mut L, insn: &Insn, index: u32) -> Res
 }
 
 /// BT in memory: the flags alone.
-#[tactic(auto, using(mdl_state::specs::Rules::attempts), unfolding(mdl_step::specs::Shifts::bit_test_plan))]
+#[tactic(auto, using(mdl_state::specs::Rules::attempts), unfolding(mdl_effect::specs::Shifts::bit_test_plan))]
 pub(crate) fn bit_test_memory<L: Linear>(
     regs: &Regs,
     flags: &mut Flags,
@@ -115,7 +115,7 @@ pub(crate) fn bit_test_memory<L: Linear>(
 }
 
 /// BTS, BTR and BTC in memory.
-#[tactic(auto, unfolding(mdl_step::specs::Shifts::bit_change_plan))]
+#[tactic(auto, unfolding(mdl_effect::specs::Shifts::bit_change_plan))]
 pub(crate) fn bit_change_memory<L: Linear>(
     regs: &Regs,
     flags: &mut Flags,

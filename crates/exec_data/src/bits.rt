@@ -3,8 +3,8 @@
 ghost use Rattle.std.specs.Prelude.{◌≡◌, ◌≢◌, ◌<◌};
 ghost use Rattle.mdl_state.specs.declared.Size.TheVariants.{B1};
 ghost use Rattle.mdl_state.specs.Bytes.{bits_of};
-ghost use Rattle.mdl_step.specs.Operands.{follow};
-ghost use Rattle.mdl_step.specs.Shifts.{bit_place, bit_test_plan, bit_change_plan, scan_plan};
+ghost use Rattle.mdl_effect.specs.Operands.{follow};
+ghost use Rattle.mdl_effect.specs.Shifts.{bit_place, bit_test_plan, bit_change_plan, scan_plan};
 ghost use Rattle.operands.specs.Whole.{whole, IsPlainOf, IsPlainWithin, KeepsOther};
 
 use lazy_flags::Flags;
@@ -22,7 +22,7 @@ pub(crate) fn bit_place(size: Size, index: u32) -> u8
 }
 
 /// BT: the flags alone.
-#[tactic(auto, unfolding(mdl_step::specs::Shifts::bit_test_plan))]
+#[tactic(auto, unfolding(mdl_effect::specs::Shifts::bit_test_plan))]
 pub(crate) fn bit_test(regs: &Regs, flags: &mut Flags, insn: &Insn)
     requires size { insn.now.size ≢ B1 }
     requires a { IsPlainOf insn.now.size insn.now.a }
@@ -38,7 +38,7 @@ pub(crate) fn bit_test(regs: &Regs, flags: &mut Flags, insn: &Insn)
 }
 
 /// BTS, BTR and BTC.
-#[tactic(auto, unfolding(mdl_step::specs::Shifts::bit_change_plan))]
+#[tactic(auto, unfolding(mdl_effect::specs::Shifts::bit_change_plan))]
 pub(crate) fn bit_change(regs: &mut Regs, flags: &mut Flags, insn: &Insn, op: BitOp)
     requires size { insn.now.size ≢ B1 }
     requires a { IsPlainOf insn.now.size insn.now.a }
@@ -55,7 +55,7 @@ pub(crate) fn bit_change(regs: &mut Regs, flags: &mut Flags, insn: &Insn, op: Bi
 }
 
 /// BSF, upwards, and BSR.
-#[tactic(auto, unfolding(mdl_step::specs::Shifts::scan_plan))]
+#[tactic(auto, unfolding(mdl_effect::specs::Shifts::scan_plan))]
 pub(crate) fn scan(regs: &mut Regs, flags: &mut Flags, insn: &Insn, up: bool)
     requires size { insn.now.size ≢ B1 }
     requires a { IsPlainOf insn.now.size insn.now.a }

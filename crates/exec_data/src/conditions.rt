@@ -6,9 +6,9 @@ ghost use Rattle.mdl_state.specs.Serving.{by_pick};
 ghost use Rattle.mdl_state.specs.Accesses.{Keeps, HasRoom};
 ghost use Rattle.mdl_state.specs.Attempt.{tried};
 ghost use Rattle.mdl_cpu.specs.Addresses.{HasAddress};
-ghost use Rattle.mdl_step.specs.Operands.{follow};
-ghost use Rattle.mdl_step.specs.Forms.{IsOf};
-ghost use Rattle.mdl_step.specs.Conditions.{set_plan};
+ghost use Rattle.mdl_effect.specs.Operands.{follow};
+ghost use Rattle.mdl_effect.specs.Forms.{IsOf};
+ghost use Rattle.mdl_effect.specs.Conditions.{set_plan};
 ghost use Rattle.operands.specs.Whole.{whole, after, IsPlainOf, KeepsOther};
 
 use crate::moves::put;
@@ -19,7 +19,7 @@ use mem_iface::Linear;
 use operands::{condition, set};
 
 /// SETcc: whether the condition holds, as a byte.
-#[tactic(auto, unfolding(mdl_step::specs::Conditions::set_plan))]
+#[tactic(auto, unfolding(mdl_effect::specs::Conditions::set_plan))]
 pub(crate) fn set_byte(regs: &mut Regs, flags: &Flags, insn: &Insn, number: u8)
     requires { IsPlainOf B1 insn.now.a }
     ensures plan { follow (whole regs.new flags.now)
@@ -30,7 +30,7 @@ pub(crate) fn set_byte(regs: &mut Regs, flags: &Flags, insn: &Insn, number: u8)
 }
 
 /// SETcc in memory.
-#[tactic(auto, unfolding(mdl_step::specs::Conditions::set_plan))]
+#[tactic(auto, unfolding(mdl_effect::specs::Conditions::set_plan))]
 pub(crate) fn set_memory<L: Linear>(
     regs: &mut Regs,
     flags: &Flags,

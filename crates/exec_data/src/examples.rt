@@ -2,8 +2,8 @@
 //! descriptions.
 
 ghost use Rattle.std.specs.Prelude.{◌≡◌, true};
-ghost use Rattle.mdl_step.specs.Forms.{IsFormed};
-ghost use Rattle.mdl_step.specs.Effects.{is_plain_data};
+ghost use Rattle.mdl_effect.specs.Forms.{IsFormed};
+ghost use Rattle.mdl_effect.specs.DataEffects.{is_plain_data};
 
 use crate::plain_run::run_formed;
 use lazy_flags::Flags;

@@ -6,8 +6,8 @@ ghost use Rattle.mdl_state.specs.Accesses.{Keeps, HasRoom};
 ghost use Rattle.mdl_state.specs.Attempt.{tried};
 ghost use Rattle.mdl_cpu.specs.Addresses.{HasAddress};
 ghost use Rattle.mdl_cpu.specs.Segments.{has_protection};
-ghost use Rattle.mdl_step.specs.Moves.{pointer_plan};
-ghost use Rattle.mdl_step.specs.Forms.{IsOf};
+ghost use Rattle.mdl_effect.specs.Moves.{pointer_plan};
+ghost use Rattle.mdl_effect.specs.Forms.{IsOf};
 ghost use Rattle.operands.specs.Whole.{whole, after};
 
 use crate::segments::load_segment;
@@ -17,7 +17,7 @@ use mem_iface::{Linear, bytes_of};
 use operands::{load, load_part, no_such, offset, set};
 
 /// A far pointer: the offset, and the selector behind it. The register is set after the load.
-#[tactic(auto, using(mdl_state::specs::Rules::attempts), unfolding(mdl_step::specs::Moves::pointer_plan))]
+#[tactic(auto, using(mdl_state::specs::Rules::attempts), unfolding(mdl_effect::specs::Moves::pointer_plan))]
 pub(crate) fn load_pointer<L: Linear>(
     regs: &mut Regs,
     lin: &mut L,

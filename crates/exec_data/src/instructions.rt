@@ -6,8 +6,9 @@ ghost use Rattle.mdl_state.specs.Serving.{by_pick};
 ghost use Rattle.mdl_state.specs.Accesses.{Keeps, HasRoom};
 ghost use Rattle.mdl_state.specs.Attempt.{tried};
 ghost use Rattle.mdl_cpu.specs.Segments.{has_protection};
-ghost use Rattle.mdl_step.specs.DataEffects.{runs_data};
-ghost use Rattle.mdl_step.specs.Effects.{effect};
+ghost use Rattle.mdl_effect.specs.DataEffects.{runs_data};
+ghost use Rattle.mdl_effect.specs.DataEffects.{data_effect};
+ghost use Rattle.mdl_cpu.specs.Steady.{Steady};
 ghost use Rattle.operands.specs.Whole.{whole, ran};
 
 use crate::memory_run::run_memory;
@@ -23,7 +24,6 @@ use mem_iface::Linear;
 ///
 /// The status flags of EFLAGS are those of `flags`. A fault leaves what was held before it to be
 /// dropped.
-#[tactic(auto, using(crate::proofs::Attempts::effects))]
 pub fn run<L: Linear>(
     regs: &mut Regs,
     flags: &mut Flags,
@@ -36,8 +36,9 @@ pub fn run<L: Linear>(
     requires mode { has_protection regs.old ≡ false }
     requires room { HasRoom (L.seen lin.old) 4 }
     ensures run { (ran result (whole regs.new flags.new), L.seen lin.new)
-        ≡ tried (by_pick L.pick) 0 (effect insn.now (whole regs.old flags.old) back (whole regs.new flags.new).eflags) (L.seen lin.old) }
+        ≡ tried (by_pick L.pick) 0 (data_effect insn.now (whole regs.old flags.old) (whole regs.new flags.new).eflags) (L.seen lin.old) }
     ensures unchanged { OnErr result ((regs.new ≡ regs.old) × (flags.new ≡ flags.old)) }
+    ensures steady { Steady (whole regs.old flags.old) (whole regs.new flags.new) }
     ensures keeps { Keeps (L.seen lin.old) (L.seen lin.new) }
 {
     if is_plain_data(insn) {

@@ -7,11 +7,11 @@ ghost use Rattle.mdl_state.specs.Accesses.{Keeps, HasRoom};
 ghost use Rattle.mdl_state.specs.Attempt.{tried};
 ghost use Rattle.mdl_cpu.specs.Addresses.{HasAddress, HasAddresses};
 ghost use Rattle.mdl_cpu.specs.Segments.{has_protection};
-ghost use Rattle.mdl_step.specs.Operands.{is_plain, is_nothing, is_segment};
-ghost use Rattle.mdl_step.specs.Moves.{mov_plan};
-ghost use Rattle.mdl_step.specs.DataEffects.{is_data, runs_data, data_effect};
-ghost use Rattle.mdl_step.specs.Effects.{is_plain_data};
-ghost use Rattle.mdl_step.specs.Forms.{IsFormed, IsMove};
+ghost use Rattle.mdl_effect.specs.Operands.{is_plain, is_nothing, is_segment};
+ghost use Rattle.mdl_effect.specs.Moves.{mov_plan};
+ghost use Rattle.mdl_effect.specs.DataEffects.{is_data, runs_data, data_effect};
+ghost use Rattle.mdl_effect.specs.DataEffects.{is_plain_data};
+ghost use Rattle.mdl_effect.specs.Forms.{IsFormed, IsMove};
 ghost use Rattle.operands.specs.Whole.{whole, after, ran};
 ghost use Rattle.exec_data.specs.Places.{placed, is_placed};
 ghost use Rattle.exec_data.specs.Reads.{is_move};
@@ -36,7 +36,7 @@ use operands::is_plain;
 
 /// The instruction by its mnemonic, where its first operand is memory.
 #[rattlefmt::skip]
-#[tactic(auto, unfolding(mdl_step::specs::DataEffects::data_effect))]
+#[tactic(auto, unfolding(mdl_effect::specs::DataEffects::data_effect))]
 fn run_changed<L: Linear>(regs: &mut Regs, flags: &mut Flags, lin: &mut L, insn: &Insn) -> Result<(), Fault>
     requires data { is_data insn.now.op ≡ true }
     requires other { is_move insn.now.op ≡ false }
@@ -138,7 +138,7 @@ fn run_move<L: Linear>(regs: &mut Regs, lin: &mut L, insn: &Insn) -> Result<Next
 }
 
 /// The instruction by its mnemonic, where that takes memory or a segment register alone.
-#[tactic(auto, unfolding(mdl_step::specs::DataEffects::data_effect))]
+#[tactic(auto, unfolding(mdl_effect::specs::DataEffects::data_effect))]
 fn run_address<L: Linear>(regs: &mut Regs, lin: &mut L, insn: &Insn) -> Result<Next, Fault>
     requires mode { has_protection regs.old ≡ false }
     requires data { is_data insn.now.op ≡ false }

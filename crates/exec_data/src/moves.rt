@@ -6,9 +6,9 @@ ghost use Rattle.mdl_state.specs.Serving.{by_pick};
 ghost use Rattle.mdl_state.specs.Accesses.{Keeps, HasRoom};
 ghost use Rattle.mdl_state.specs.Attempt.{tried};
 ghost use Rattle.mdl_cpu.specs.Addresses.{HasAddress};
-ghost use Rattle.mdl_step.specs.Operands.{follow, writing};
-ghost use Rattle.mdl_step.specs.Forms.{IsOf};
-ghost use Rattle.mdl_step.specs.Moves.{sign_extended, move_plan, sign_extend_plan, exchange_plan, half_size, widen_plan, sign_plan};
+ghost use Rattle.mdl_effect.specs.Operands.{follow, writing};
+ghost use Rattle.mdl_effect.specs.Forms.{IsOf};
+ghost use Rattle.mdl_effect.specs.Moves.{sign_extended, move_plan, sign_extend_plan, exchange_plan, half_size, widen_plan, sign_plan};
 ghost use Rattle.operands.specs.Whole.{whole, after, IsPlainOf, IsPlainWithin, KeepsOther};
 ghost use Rattle.operands.specs.Memory.{IsMemoryOf};
 
@@ -22,7 +22,7 @@ use operands::{
 };
 
 /// MOV.
-#[tactic(auto, unfolding(mdl_step::specs::Moves::move_plan))]
+#[tactic(auto, unfolding(mdl_effect::specs::Moves::move_plan))]
 pub(crate) fn copy(regs: &mut Regs, insn: &Insn)
     requires a { IsPlainOf insn.now.size insn.now.a }
     requires b { IsPlainOf insn.now.size insn.now.b }
@@ -35,7 +35,7 @@ pub(crate) fn copy(regs: &mut Regs, insn: &Insn)
 }
 
 /// MOVZX.
-#[tactic(auto, unfolding(mdl_step::specs::Moves::move_plan))]
+#[tactic(auto, unfolding(mdl_effect::specs::Moves::move_plan))]
 pub(crate) fn zero_extend(regs: &mut Regs, insn: &Insn)
     requires a { IsPlainOf insn.now.size insn.now.a }
     requires b { IsPlainWithin insn.now.size insn.now.b }
@@ -58,7 +58,7 @@ fn sign_extended(from: Size, to: Size, value: u32) -> u32
 }
 
 /// MOVSX.
-#[tactic(auto, unfolding(mdl_step::specs::Moves::sign_extend_plan))]
+#[tactic(auto, unfolding(mdl_effect::specs::Moves::sign_extend_plan))]
 pub(crate) fn sign_extend(regs: &mut Regs, insn: &Insn)
     requires a { IsPlainOf insn.now.size insn.now.a }
     requires b { IsPlainWithin insn.now.size insn.now.b }
@@ -73,7 +73,7 @@ pub(crate) fn sign_extend(regs: &mut Regs, insn: &Insn)
 }
 
 /// XCHG, and what does nothing.
-#[tactic(auto, unfolding(mdl_step::specs::Moves::exchange_plan))]
+#[tactic(auto, unfolding(mdl_effect::specs::Moves::exchange_plan))]
 pub(crate) fn exchange(regs: &mut Regs, insn: &Insn)
     requires a { IsPlainOf insn.now.size insn.now.a }
     requires b { IsPlainOf insn.now.size insn.now.b }
@@ -102,7 +102,7 @@ fn half_size(size: Size) -> Size
 }
 
 /// CBW and CWDE.
-#[tactic(auto, unfolding(mdl_step::specs::Moves::widen_plan))]
+#[tactic(auto, unfolding(mdl_effect::specs::Moves::widen_plan))]
 pub(crate) fn widen(regs: &mut Regs, insn: &Insn)
     ensures plan { (flags : ℕ) → follow (whole regs.new flags)
         ≡ widen_plan insn.now (whole regs.old flags) }
@@ -114,7 +114,7 @@ pub(crate) fn widen(regs: &mut Regs, insn: &Insn)
 }
 
 /// CWD and CDQ.
-#[tactic(auto, unfolding(mdl_step::specs::Moves::sign_plan))]
+#[tactic(auto, unfolding(mdl_effect::specs::Moves::sign_plan))]
 pub(crate) fn sign(regs: &mut Regs, insn: &Insn)
     ensures plan { (flags : ℕ) → follow (whole regs.new flags)
         ≡ sign_plan insn.now (whole regs.old flags) }
@@ -156,7 +156,7 @@ pub(crate) fn put<L: Linear>(
 }
 
 /// MOV from memory or to it.
-#[tactic(auto, using(mdl_state::specs::Rules::attempts), unfolding(mdl_step::specs::Moves::move_plan))]
+#[tactic(auto, using(mdl_state::specs::Rules::attempts), unfolding(mdl_effect::specs::Moves::move_plan))]
 pub(crate) fn move_memory<L: Linear>(regs: &mut Regs, lin: &mut L, insn: &Insn) -> Result<(), Fault>
     requires a { IsOf insn.now.size insn.now.a }
     requires b { IsOf insn.now.size insn.now.b }
@@ -180,7 +180,7 @@ pub(crate) fn move_memory<L: Linear>(regs: &mut Regs, lin: &mut L, insn: &Insn) 
 }
 
 /// XCHG with memory. The register is set after the last check.
-#[tactic(auto, unfolding(mdl_step::specs::Moves::exchange_plan))]
+#[tactic(auto, unfolding(mdl_effect::specs::Moves::exchange_plan))]
 pub(crate) fn exchange_memory<L: Linear>(
     regs: &mut Regs,
     lin: &mut L,

@@ -3,7 +3,7 @@
 ghost use Rattle.std.specs.Prelude.{◌≡◌, ◌<◌, ℕ};
 ghost use Rattle.mdl_state.specs.Bytes.{bound_of};
 ghost use Rattle.mdl_state.specs.Registers.{reg_of};
-ghost use Rattle.mdl_step.specs.Arithmetic.{high_number, with_pair};
+ghost use Rattle.mdl_effect.specs.Arithmetic.{high_number, with_pair};
 ghost use Rattle.operands.specs.Whole.{whole, KeepsOther};
 
 use mdl_state::{Regs, Size};

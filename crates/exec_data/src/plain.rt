@@ -1,8 +1,8 @@
 //! Which instructions are data instructions, and which of them are on registers and numbers alone.
 
 ghost use Rattle.std.specs.Prelude.{◌≡◌};
-ghost use Rattle.mdl_step.specs.DataEffects.{is_data, is_address, is_special, is_segment_pop, runs_data};
-ghost use Rattle.mdl_step.specs.Effects.{is_plain_data};
+ghost use Rattle.mdl_effect.specs.DataEffects.{is_data, is_address, is_special, is_segment_pop, runs_data};
+ghost use Rattle.mdl_effect.specs.DataEffects.{is_plain_data};
 ghost use Rattle.exec_data.specs.Reads.{is_move};
 
 use mdl_insn::{Insn, Op, Operand};

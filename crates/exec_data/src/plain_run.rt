@@ -5,11 +5,11 @@ ghost use Rattle.mdl_insn.specs.Spelling.{Spelt};
 ghost use Rattle.mdl_state.specs.State.{Mem};
 ghost use Rattle.mdl_state.specs.Serving.{Serve};
 ghost use Rattle.mdl_state.specs.Attempt.{tried};
-ghost use Rattle.mdl_step.specs.Operands.{follow};
-ghost use Rattle.mdl_step.specs.Arithmetic.{divide_error};
-ghost use Rattle.mdl_step.specs.DataEffects.{data_effect};
-ghost use Rattle.mdl_step.specs.Effects.{effect, is_plain_data};
-ghost use Rattle.mdl_step.specs.Forms.{IsFormed};
+ghost use Rattle.mdl_effect.specs.Operands.{follow};
+ghost use Rattle.mdl_effect.specs.Arithmetic.{divide_error};
+ghost use Rattle.mdl_effect.specs.DataEffects.{data_effect};
+ghost use Rattle.mdl_effect.specs.DataEffects.{is_plain_data};
+ghost use Rattle.mdl_effect.specs.Forms.{IsFormed};
 ghost use Rattle.operands.specs.Whole.{whole, done, after, KeepsOther};
 ghost use Rattle.exec_data.specs.Failing.{can_fail};
 
@@ -27,7 +27,7 @@ use mdl_state::{Fault, Regs};
 
 /// The instruction by its mnemonic, where that has no fault.
 #[rattlefmt::skip]
-#[tactic(auto, unfolding(mdl_step::specs::DataEffects::data_effect))]
+#[tactic(auto, unfolding(mdl_effect::specs::DataEffects::data_effect))]
 fn run_sure(regs: &mut Regs, flags: &mut Flags, insn: &Insn)
     requires formed { IsFormed insn.now }
     requires plain { is_plain_data insn.now ≡ true }
@@ -65,7 +65,7 @@ fn run_sure(regs: &mut Regs, flags: &mut Flags, insn: &Insn)
 }
 
 /// The instruction by its mnemonic, where its operands have the form of it.
-#[tactic(auto, unfolding(mdl_step::specs::DataEffects::data_effect))]
+#[tactic(auto, unfolding(mdl_effect::specs::DataEffects::data_effect))]
 pub(crate) fn run_formed(regs: &mut Regs, flags: &mut Flags, insn: &Insn) -> Result<(), Fault>
     requires formed { IsFormed insn.now }
     requires plain { is_plain_data insn.now ≡ true }
@@ -94,8 +94,8 @@ pub(crate) fn run_formed(regs: &mut Regs, flags: &mut Flags, insn: &Insn) -> Res
 pub fn run_plain(regs: &mut Regs, flags: &mut Flags, insn: &Insn) -> Result<(), Fault>
     requires spelt { (bytes : List ℕ) × (big : Bool) × Spelt bytes big insn.now }
     requires plain { IsTrue (is_plain_data insn.now) }
-    ensures run { (serve : Serve) (given : ℕ) (back : ℕ) (m : Mem) → (after result (whole regs.new flags.new), m)
-        ≡ tried serve given (effect insn.now (whole regs.old flags.old) back (whole regs.new flags.new).eflags) m }
+    ensures run { (serve : Serve) (given : ℕ) (m : Mem) → (after result (whole regs.new flags.new), m)
+        ≡ tried serve given (data_effect insn.now (whole regs.old flags.old) (whole regs.new flags.new).eflags) m }
     ensures fault { IfErr result (λ fault. fault ≡ divide_error) }
     ensures unchanged { OnErr result ((regs.new ≡ regs.old) × (flags.new ≡ flags.old)) }
     ensures kept { KeepsOther regs.old regs.new }

@@ -2,9 +2,9 @@
 
 ghost use Rattle.std.specs.Prelude.{◌≡◌, ◌<◌, ℕ, true, false, IfOk, IfErr, OnErr};
 ghost use Rattle.mdl_state.specs.Bytes.{bound_of};
-ghost use Rattle.mdl_step.specs.Operands.{is_nothing};
-ghost use Rattle.mdl_step.specs.Operands.{follow};
-ghost use Rattle.mdl_step.specs.Arithmetic.{divide_error, multiply_plan, signed_multiply_plan, quotient_plan, divide_plan, signed_divide_plan};
+ghost use Rattle.mdl_effect.specs.Operands.{is_nothing};
+ghost use Rattle.mdl_effect.specs.Operands.{follow};
+ghost use Rattle.mdl_effect.specs.Arithmetic.{divide_error, multiply_plan, signed_multiply_plan, quotient_plan, divide_plan, signed_divide_plan};
 ghost use Rattle.operands.specs.Whole.{whole, done, IsPlainOf, KeepsOther};
 
 use crate::pairs::{pair, set_pair};
@@ -27,7 +27,7 @@ pub(crate) fn divide_error() -> Fault
 }
 
 /// MUL.
-#[tactic(auto, unfolding(mdl_step::specs::Arithmetic::multiply_plan))]
+#[tactic(auto, unfolding(mdl_effect::specs::Arithmetic::multiply_plan))]
 pub(crate) fn multiply(regs: &mut Regs, flags: &mut Flags, insn: &Insn)
     requires { IsPlainOf insn.now.size insn.now.a }
     ensures plan { follow (whole regs.new flags.new)
@@ -42,7 +42,7 @@ pub(crate) fn multiply(regs: &mut Regs, flags: &mut Flags, insn: &Insn)
 }
 
 /// IMUL with one operand.
-#[tactic(auto, unfolding(mdl_step::specs::Arithmetic::signed_multiply_plan))]
+#[tactic(auto, unfolding(mdl_effect::specs::Arithmetic::signed_multiply_plan))]
 fn multiply_accumulator(regs: &mut Regs, flags: &mut Flags, insn: &Insn)
     requires a { IsPlainOf insn.now.size insn.now.a }
     requires b { is_nothing insn.now.b ≡ true }
@@ -58,7 +58,7 @@ fn multiply_accumulator(regs: &mut Regs, flags: &mut Flags, insn: &Insn)
 }
 
 /// IMUL with two operands, the first of which is a factor.
-#[tactic(auto, unfolding(mdl_step::specs::Arithmetic::signed_multiply_plan))]
+#[tactic(auto, unfolding(mdl_effect::specs::Arithmetic::signed_multiply_plan))]
 fn multiply_operand(regs: &mut Regs, flags: &mut Flags, insn: &Insn)
     requires a { IsPlainOf insn.now.size insn.now.a }
     requires b { IsPlainOf insn.now.size insn.now.b }
@@ -76,7 +76,7 @@ fn multiply_operand(regs: &mut Regs, flags: &mut Flags, insn: &Insn)
 }
 
 /// IMUL with three operands.
-#[tactic(auto, unfolding(mdl_step::specs::Arithmetic::signed_multiply_plan))]
+#[tactic(auto, unfolding(mdl_effect::specs::Arithmetic::signed_multiply_plan))]
 fn multiply_others(regs: &mut Regs, flags: &mut Flags, insn: &Insn)
     requires a { IsPlainOf insn.now.size insn.now.a }
     requires b { IsPlainOf insn.now.size insn.now.b }
@@ -136,7 +136,7 @@ fn set_quotient(
 }
 
 /// DIV.
-#[tactic(auto, unfolding(mdl_step::specs::Arithmetic::divide_plan))]
+#[tactic(auto, unfolding(mdl_effect::specs::Arithmetic::divide_plan))]
 pub(crate) fn divide(regs: &mut Regs, insn: &Insn) -> Result<(), Fault>
     requires { IsPlainOf insn.now.size insn.now.a }
     ensures plan { (flags : ℕ) → done result (whole regs.new flags)
@@ -151,7 +151,7 @@ pub(crate) fn divide(regs: &mut Regs, insn: &Insn) -> Result<(), Fault>
 }
 
 /// IDIV.
-#[tactic(auto, unfolding(mdl_step::specs::Arithmetic::signed_divide_plan))]
+#[tactic(auto, unfolding(mdl_effect::specs::Arithmetic::signed_divide_plan))]
 pub(crate) fn signed_divide(regs: &mut Regs, insn: &Insn) -> Result<(), Fault>
     requires { IsPlainOf insn.now.size insn.now.a }
     ensures plan { (flags : ℕ) → done result (whole regs.new flags)

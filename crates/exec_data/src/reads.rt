@@ -5,9 +5,9 @@ ghost use Rattle.mdl_state.specs.Serving.{by_pick};
 ghost use Rattle.mdl_state.specs.Accesses.{Keeps};
 ghost use Rattle.mdl_state.specs.Attempt.{tried};
 ghost use Rattle.mdl_cpu.specs.Addresses.{HasAddress};
-ghost use Rattle.mdl_step.specs.Operands.{is_plain, is_nothing};
-ghost use Rattle.mdl_step.specs.DataEffects.{data_effect};
-ghost use Rattle.mdl_step.specs.Forms.{IsFormed};
+ghost use Rattle.mdl_effect.specs.Operands.{is_plain, is_nothing};
+ghost use Rattle.mdl_effect.specs.DataEffects.{data_effect};
+ghost use Rattle.mdl_effect.specs.Forms.{IsFormed};
 ghost use Rattle.operands.specs.Whole.{whole, after};
 ghost use Rattle.exec_data.specs.Reads.{reads_first, reads_second, with_first, with_second};
 

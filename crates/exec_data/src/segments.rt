@@ -9,8 +9,8 @@ ghost use Rattle.mdl_state.specs.Attempt.{tried};
 ghost use Rattle.mdl_cpu.specs.Addresses.{HasAddress};
 ghost use Rattle.mdl_cpu.specs.Segments.{has_protection};
 ghost use Rattle.mdl_cpu.specs.Loads.{load_plan, answered};
-ghost use Rattle.mdl_step.specs.Moves.{after_load, load_segment_plan, store_segment_plan, pop_segment_plan};
-ghost use Rattle.mdl_step.specs.Forms.{IsOf};
+ghost use Rattle.mdl_effect.specs.Moves.{after_load, load_segment_plan, store_segment_plan, pop_segment_plan};
+ghost use Rattle.mdl_effect.specs.Forms.{IsOf};
 ghost use Rattle.operands.specs.Whole.{whole, after, ran, KeepsOther};
 
 use desc_load::{load_data, load_stack};
@@ -51,7 +51,7 @@ fn after_load(seg: Seg) -> Next
 }
 
 /// MOV to a segment register.
-#[tactic(auto, using(mdl_state::specs::Rules::attempts), unfolding(mdl_step::specs::Moves::load_segment_plan))]
+#[tactic(auto, using(mdl_state::specs::Rules::attempts), unfolding(mdl_effect::specs::Moves::load_segment_plan))]
 pub(crate) fn move_to_segment<L: Linear>(
     regs: &mut Regs,
     lin: &mut L,
@@ -87,7 +87,7 @@ fn selector(regs: &Regs, seg: Seg) -> u32
 }
 
 /// MOV from a segment register: a doubleword register is zero extended, and memory gets a word.
-#[tactic(auto, using(mdl_state::specs::Rules::attempts), unfolding(mdl_step::specs::Moves::store_segment_plan))]
+#[tactic(auto, using(mdl_state::specs::Rules::attempts), unfolding(mdl_effect::specs::Moves::store_segment_plan))]
 pub(crate) fn move_from_segment<L: Linear>(
     regs: &mut Regs,
     lin: &mut L,
@@ -119,7 +119,7 @@ pub(crate) fn move_from_segment<L: Linear>(
 }
 
 /// POP of a segment register, of which the operand size is read.
-#[tactic(auto, using(mdl_state::specs::Rules::attempts), unfolding(mdl_step::specs::Moves::pop_segment_plan))]
+#[tactic(auto, using(mdl_state::specs::Rules::attempts), unfolding(mdl_effect::specs::Moves::pop_segment_plan))]
 pub(crate) fn pop_segment<L: Linear>(
     regs: &mut Regs,
     lin: &mut L,

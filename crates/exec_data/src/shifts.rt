@@ -7,8 +7,8 @@ ghost use Rattle.mdl_state.specs.Serving.{by_pick};
 ghost use Rattle.mdl_state.specs.Accesses.{Keeps, HasRoom};
 ghost use Rattle.mdl_state.specs.Attempt.{tried};
 ghost use Rattle.mdl_num.specs.Flags.{flags_after};
-ghost use Rattle.mdl_step.specs.Operands.{follow};
-ghost use Rattle.mdl_step.specs.Shifts.{shifted, shift_plan, double_shift_plan};
+ghost use Rattle.mdl_effect.specs.Operands.{follow};
+ghost use Rattle.mdl_effect.specs.Shifts.{shifted, shift_plan, double_shift_plan};
 ghost use Rattle.operands.specs.Whole.{whole, after, IsPlainOf, KeepsOther};
 ghost use Rattle.operands.specs.Memory.{IsMemoryOf};
 
@@ -40,7 +40,7 @@ fn shifted(op: Op, size: Size, a: u32, count: u8, flags: u32) -> Alu
 }
 
 /// ROL to SAR.
-#[tactic(auto, unfolding(mdl_step::specs::Shifts::shift_plan))]
+#[tactic(auto, unfolding(mdl_effect::specs::Shifts::shift_plan))]
 pub(crate) fn shift(regs: &mut Regs, flags: &mut Flags, insn: &Insn)
     requires a { IsPlainOf insn.now.size insn.now.a }
     requires b { IsPlainOf B1 insn.now.b }
@@ -56,7 +56,7 @@ pub(crate) fn shift(regs: &mut Regs, flags: &mut Flags, insn: &Insn)
 }
 
 /// SHLD, with `left`, and SHRD.
-#[tactic(auto, unfolding(mdl_step::specs::Shifts::double_shift_plan))]
+#[tactic(auto, unfolding(mdl_effect::specs::Shifts::double_shift_plan))]
 pub(crate) fn double_shift(regs: &mut Regs, flags: &mut Flags, insn: &Insn, left: bool)
     requires size { insn.now.size ≢ B1 }
     requires a { IsPlainOf insn.now.size insn.now.a }
@@ -76,7 +76,7 @@ pub(crate) fn double_shift(regs: &mut Regs, flags: &mut Flags, insn: &Insn, left
 }
 
 /// ROL to SAR in memory.
-#[tactic(auto, unfolding(mdl_step::specs::Shifts::shift_plan))]
+#[tactic(auto, unfolding(mdl_effect::specs::Shifts::shift_plan))]
 pub(crate) fn shift_memory<L: Linear>(
     regs: &Regs,
     flags: &mut Flags,
@@ -101,7 +101,7 @@ pub(crate) fn shift_memory<L: Linear>(
 }
 
 /// SHLD, with `left`, and SHRD in memory.
-#[tactic(auto, unfolding(mdl_step::specs::Shifts::double_shift_plan))]
+#[tactic(auto, unfolding(mdl_effect::specs::Shifts::double_shift_plan))]
 pub(crate) fn double_shift_memory<L: Linear>(
     regs: &Regs,
     flags: &mut Flags,

@@ -8,7 +8,7 @@ use Rattle.mdl_num.specs.Flags.{is_set, with_bit}
 use Rattle.mdl_num.specs.declared.status.TheConstants.{CF, PF, AF, ZF, SF, OF}
 use Rattle.mdl_num.proofs.Places.{bit_at-with_bit, bit_at-with_bit_other, from_bool-lt}
 use Rattle.lazy_flags.specs.Keeper.{copied, with_status}
-use Rattle.mdl_step.specs.Operands.{DF}
+use Rattle.mdl_effect.specs.Operands.{DF}
 
 -- bits of two places are set in either order
 swapped : (n j b k c : ℕ) → b < 2 → c < 2 → j ≢ k → with_bit (with_bit n j b) k c ≡ with_bit (with_bit n k c) j b

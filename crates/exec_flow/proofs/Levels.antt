@@ -4,9 +4,9 @@ use Rattle.mdl_state.specs.declared.Size.{Size}
 use Rattle.mdl_state.specs.declared.Seg.TheVariants.{Ss}
 use Rattle.mdl_state.specs.declared.Regs.{Regs}
 use Rattle.mdl_state.specs.Attempt.{Done, then_plan}
-use Rattle.mdl_step.specs.Operands.{load_from}
-use Rattle.mdl_step.specs.Stack.{push_plan}
-use Rattle.mdl_step.specs.StackEffects.{below_frame, copy_frames, push_frames}
+use Rattle.mdl_cpu.specs.Access.{load_from}
+use Rattle.mdl_cpu.specs.Stack.{push_plan}
+use Rattle.mdl_effect.specs.StackEffects.{below_frame, copy_frames, push_frames}
 
 pub no_copy : (old r : Regs) (size : Size) (n count : ℕ) → count ≡ 0 → copy_frames old r size n count ≡ Done r
 no_copy old r size n zero e = refl

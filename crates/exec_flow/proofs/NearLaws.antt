@@ -13,7 +13,7 @@ use Rattle.mdl_insn.specs.declared.rows.Row.{Row}
 use Rattle.mdl_insn.specs.Operands.{operand, Place, place}
 use Rattle.mdl_insn.specs.Prefixes.{has, operand_size_prefix, setting}
 use Rattle.mdl_insn.specs.Spelling.{size_of, insn_of, opcode_last, SpeltRow, Spelt}
-use Rattle.mdl_step.proofs.RowTests.{row_tested}
+use Rattle.mdl_effect.proofs.RowTests.{row_tested}
 use Rattle.exec_flow.specs.Near.{is_relative, is_branch, is_push, IsNear}
 
 abbrev is_displacement : Form → Bool

@@ -8,9 +8,9 @@ use Rattle.mdl_state.specs.Attempt.{then_plan}
 use Rattle.mdl_insn.specs.declared.instruction.Insn.{Insn}
 use Rattle.mdl_insn.specs.declared.instruction.Operand.{Operand}
 use Rattle.mdl_insn.specs.declared.instruction.Operand.TheVariants.{Sreg}
-use Rattle.mdl_step.specs.Operands.{is_segment, reading}
-use Rattle.mdl_step.specs.Stack.{push_plan, pop_plan}
-use Rattle.mdl_step.specs.StackEffects.{pushing, push_of, push_operand_plan, push_all, popped_into, pop_all}
+use Rattle.mdl_effect.specs.Operands.{is_segment, reading}
+use Rattle.mdl_cpu.specs.Stack.{push_plan, pop_plan}
+use Rattle.mdl_effect.specs.StackEffects.{pushing, push_of, push_operand_plan, push_all, popped_into, pop_all}
 use Rattle.exec_flow.specs.Stacked.{selector_of, numbers_of}
 
 segment_pushed : (a : Operand) (insn : Insn) (r : Regs) → is_segment a ≡ true → push_of a insn r ≡ pushing r insn.size (selector_of r a)

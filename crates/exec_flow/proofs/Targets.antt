@@ -13,8 +13,8 @@ use Rattle.mdl_state.specs.Attempt.{Plan}
 use Rattle.mdl_state.specs.AttemptLaws.{tried-then_plan}
 use Rattle.mdl_insn.specs.declared.instruction.Operand.{Operand}
 use Rattle.mdl_insn.specs.declared.instruction.Operand.TheVariants.{Rel}
-use Rattle.mdl_step.specs.Operands.{After, address_size, reading}
-use Rattle.mdl_step.specs.FlowEffects.{target_by}
+use Rattle.mdl_effect.specs.Operands.{After, address_size, reading}
+use Rattle.mdl_effect.specs.Jumps.{target_by}
 use Rattle.exec_flow.specs.Near.{is_relative, displacement_of}
 
 -- a branch with a displacement

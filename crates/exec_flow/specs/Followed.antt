@@ -5,7 +5,7 @@ use Rattle.mdl_state.specs.declared.Next.TheVariants.{Follow}
 use Rattle.mdl_state.specs.Serving.{Outcome, Passed}
 use Rattle.mdl_insn.specs.declared.mnemonics.Op.{Op}
 use Rattle.mdl_insn.specs.declared.mnemonics.Op.TheVariants as ops
-use Rattle.mdl_step.specs.Operands.{After}
+use Rattle.mdl_effect.specs.Operands.{After, NoPort}
 
 -- the mnemonics that change flags, or AH by them
 abbrev pub is_flag : Op → Bool
@@ -20,4 +20,4 @@ is_flag _ = false
 
 -- the instruction goes on behind itself with these registers
 abbrev pub followed : Regs → Outcome After
-followed r = Passed (record { regs = r; next = Follow })
+followed r = Passed (record { regs = r; next = Follow; access = NoPort })

@@ -8,8 +8,8 @@ use Rattle.mdl_insn.specs.declared.instruction.Operand.{Operand}
 use Rattle.mdl_insn.specs.declared.instruction.Operand.TheVariants.{Rel}
 use Rattle.mdl_insn.specs.declared.mnemonics.Op.{Op}
 use Rattle.mdl_insn.specs.declared.mnemonics.Op.TheVariants as ops
-use Rattle.mdl_step.specs.Operands.{address_size}
-use Rattle.mdl_step.specs.FlowEffects.{count_of}
+use Rattle.mdl_effect.specs.Operands.{address_size}
+use Rattle.mdl_effect.specs.Operands.{count_of}
 
 -- a displacement from behind the instruction
 abbrev pub is_relative : Operand → Bool

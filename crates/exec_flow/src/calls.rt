@@ -6,8 +6,8 @@ ghost use Rattle.mdl_state.specs.Serving.{by_pick};
 ghost use Rattle.mdl_state.specs.Accesses.{Keeps, HasRoom};
 ghost use Rattle.mdl_state.specs.Attempt.{tried};
 ghost use Rattle.mdl_cpu.specs.Addresses.{HasAddress};
-ghost use Rattle.mdl_step.specs.FlowEffects.{call_plan, return_plan};
-ghost use Rattle.mdl_step.specs.Forms.{IsOf};
+ghost use Rattle.mdl_effect.specs.Jumps.{call_plan, return_plan};
+ghost use Rattle.mdl_effect.specs.Forms.{IsOf};
 ghost use Rattle.operands.specs.Whole.{whole, ran};
 
 use crate::jumps::{is_inside, target};
@@ -18,7 +18,7 @@ use mem_iface::{Linear, bytes_of};
 use operands::{above_top, below_top, general_protection, load, set_top, stack_top, store, value};
 
 /// CALL. The address behind it is pushed before the new EIP is tested.
-#[tactic(auto, using(crate::proofs::Targets::calls), unfolding(mdl_step::specs::FlowEffects::call_plan, mdl_step::specs::Stack::push_plan))]
+#[tactic(auto, using(crate::proofs::Targets::calls), unfolding(mdl_effect::specs::Jumps::call_plan, mdl_cpu::specs::Stack::push_plan))]
 pub(crate) fn call<L: Linear>(
     regs: &mut Regs,
     lin: &mut L,
@@ -46,7 +46,7 @@ pub(crate) fn call<L: Linear>(
 }
 
 /// RET.
-#[tactic(auto, using(crate::proofs::Targets::calls), unfolding(mdl_step::specs::FlowEffects::return_plan, mdl_step::specs::Stack::pop_plan))]
+#[tactic(auto, using(crate::proofs::Targets::calls), unfolding(mdl_effect::specs::Jumps::return_plan, mdl_cpu::specs::Stack::pop_plan))]
 pub(crate) fn return_near<L: Linear>(
     regs: &mut Regs,
     lin: &mut L,

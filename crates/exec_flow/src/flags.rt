@@ -5,8 +5,8 @@ ghost use Rattle.mdl_state.specs.State.{Mem};
 ghost use Rattle.mdl_state.specs.Serving.{Serve};
 ghost use Rattle.mdl_state.specs.Attempt.{tried};
 ghost use Rattle.mdl_num.specs.declared.status.TheConstants.{CF};
-ghost use Rattle.mdl_step.specs.Operands.{DF, with_flags};
-ghost use Rattle.mdl_step.specs.FlowEffects.{flag_plan, flags_to_ah_plan, ah_to_flags_plan};
+ghost use Rattle.mdl_effect.specs.Operands.{DF, with_flags};
+ghost use Rattle.mdl_effect.specs.FlagEffects.{flag_plan, flags_to_ah_plan, ah_to_flags_plan};
 ghost use Rattle.operands.specs.Whole.{whole};
 ghost use Rattle.exec_flow.specs.Followed.{followed};
 
@@ -23,7 +23,7 @@ fn keep_status(regs: &Regs, flags: &mut Flags, status: Status)
 }
 
 /// CLC, STC and CMC, by what CF becomes.
-#[tactic(auto, unfolding(mdl_step::specs::FlowEffects::flag_plan, mdl_num::specs::Flags::flags_after, mdl_num::specs::Flags::untouched_status))]
+#[tactic(auto, unfolding(mdl_effect::specs::FlagEffects::flag_plan, mdl_num::specs::Flags::flags_after, mdl_num::specs::Flags::untouched_status))]
 pub(crate) fn set_carry(regs: &Regs, flags: &mut Flags, on: bool)
     ensures { (serve : Serve) (m : Mem) → (followed (whole regs.now flags.new), m)
         ≡ tried serve 0 (flag_plan CF on (whole regs.now flags.old)) m }
@@ -36,7 +36,7 @@ pub(crate) fn set_carry(regs: &Regs, flags: &mut Flags, on: bool)
 }
 
 /// CLD and STD, by what DF becomes.
-#[tactic(auto, using(crate::proofs::Direction::direction), unfolding(mdl_step::specs::FlowEffects::flag_plan))]
+#[tactic(auto, using(crate::proofs::Direction::direction), unfolding(mdl_effect::specs::FlagEffects::flag_plan))]
 pub(crate) fn set_direction(regs: &mut Regs, on: bool)
     ensures { (flags : ℕ) (serve : Serve) (m : Mem) → (followed (whole regs.new flags), m)
         ≡ tried serve 0 (flag_plan DF on (whole regs.old flags)) m }
@@ -45,7 +45,7 @@ pub(crate) fn set_direction(regs: &mut Regs, on: bool)
 }
 
 /// LAHF.
-#[tactic(auto, unfolding(mdl_step::specs::FlowEffects::flags_to_ah_plan))]
+#[tactic(auto, unfolding(mdl_effect::specs::FlagEffects::flags_to_ah_plan))]
 pub(crate) fn load_ah(regs: &mut Regs, flags: &Flags)
     ensures { (serve : Serve) (m : Mem) → (followed (whole regs.new flags.now), m)
         ≡ tried serve 0 (flags_to_ah_plan (whole regs.old flags.now)) m }
@@ -54,7 +54,7 @@ pub(crate) fn load_ah(regs: &mut Regs, flags: &Flags)
 }
 
 /// SAHF.
-#[tactic(auto, using(crate::proofs::Direction::flag_of), unfolding(mdl_step::specs::FlowEffects::ah_to_flags_plan, mdl_num::specs::Flags::flags_after, mdl_num::specs::Flags::untouched_status))]
+#[tactic(auto, using(crate::proofs::Direction::flag_of), unfolding(mdl_effect::specs::FlagEffects::ah_to_flags_plan, mdl_num::specs::Flags::flags_after, mdl_num::specs::Flags::untouched_status))]
 pub(crate) fn store_ah(regs: &Regs, flags: &mut Flags)
     ensures { (serve : Serve) (m : Mem) → (followed (whole regs.now flags.new), m)
         ≡ tried serve 0 (ah_to_flags_plan (whole regs.now flags.old)) m }

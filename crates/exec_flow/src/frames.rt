@@ -7,8 +7,8 @@ ghost use Rattle.mdl_state.specs.Serving.{by_pick};
 ghost use Rattle.mdl_state.specs.Accesses.{Keeps, HasRoom};
 ghost use Rattle.mdl_state.specs.Attempt.{tried};
 ghost use Rattle.mdl_cpu.specs.Loads.{answered};
-ghost use Rattle.mdl_step.specs.StackEffects.{below_frame, copy_frames, push_frames, enter_plan, leave_plan};
-ghost use Rattle.mdl_step.specs.Forms.{IsOf};
+ghost use Rattle.mdl_effect.specs.StackEffects.{below_frame, copy_frames, push_frames, enter_plan, leave_plan};
+ghost use Rattle.mdl_effect.specs.Forms.{IsOf};
 ghost use Rattle.operands.specs.Whole.{whole, ran};
 
 use mdl_insn::Insn;
@@ -87,7 +87,7 @@ fn push_frames<L: Linear>(
 }
 
 /// ENTER.
-#[tactic(auto, using(mdl_state::specs::Rules::attempts), unfolding(mdl_step::specs::StackEffects::enter_plan))]
+#[tactic(auto, using(mdl_state::specs::Rules::attempts), unfolding(mdl_effect::specs::StackEffects::enter_plan))]
 pub(crate) fn enter<L: Linear>(regs: &mut Regs, lin: &mut L, insn: &Insn) -> Result<Next, Fault>
     requires bytes { IsOf B2 insn.now.a }
     requires level { IsOf B1 insn.now.b }
@@ -112,7 +112,7 @@ pub(crate) fn enter<L: Linear>(regs: &mut Regs, lin: &mut L, insn: &Insn) -> Res
 }
 
 /// LEAVE.
-#[tactic(auto, using(mdl_state::specs::Rules::attempts), unfolding(mdl_step::specs::StackEffects::leave_plan))]
+#[tactic(auto, using(mdl_state::specs::Rules::attempts), unfolding(mdl_effect::specs::StackEffects::leave_plan))]
 pub(crate) fn leave<L: Linear>(regs: &mut Regs, lin: &mut L, insn: &Insn) -> Result<Next, Fault>
     ensures run { (flags : ℕ) → (ran result (whole regs.new flags), L.seen lin.new)
         ≡ tried (by_pick L.pick) 0 (leave_plan insn.now (whole regs.old flags)) (L.seen lin.old) }

@@ -7,8 +7,9 @@ ghost use Rattle.mdl_state.specs.Serving.{Serve, by_pick};
 ghost use Rattle.mdl_state.specs.Accesses.{Keeps, HasRoom};
 ghost use Rattle.mdl_state.specs.Attempt.{tried};
 ghost use Rattle.mdl_cpu.specs.Addresses.{HasAddress};
-ghost use Rattle.mdl_step.specs.Effects.{is_flow, is_pop, runs_flow, flow_effect, effect};
-ghost use Rattle.mdl_step.specs.Forms.{IsFormed};
+ghost use Rattle.mdl_effect.specs.FlowEffects.{is_flow, is_pop, runs_flow, flow_effect};
+ghost use Rattle.mdl_cpu.specs.Steady.{Steady};
+ghost use Rattle.mdl_effect.specs.Forms.{IsFormed};
 ghost use Rattle.operands.specs.Whole.{whole, ran};
 ghost use Rattle.exec_flow.specs.Near.{is_branch, is_relative, IsNear};
 ghost use Rattle.exec_flow.specs.Followed.{is_flag, followed};
@@ -56,7 +57,7 @@ pub fn runs_flow(insn: &Insn) -> bool
 }
 
 /// A branch where a condition holds.
-#[tactic(auto, using(operands::proofs::Statuses::packed_bits), unfolding(mdl_step::specs::Effects::flow_effect))]
+#[tactic(auto, using(operands::proofs::Statuses::packed_bits), unfolding(mdl_effect::specs::FlowEffects::flow_effect))]
 pub(crate) fn run_branch(
     regs: &mut Regs,
     flags: &Flags,
@@ -80,7 +81,7 @@ pub(crate) fn run_branch(
 }
 
 /// An instruction of the flags, which has no fault.
-#[tactic(auto, using(operands::proofs::Statuses::packed_bits), unfolding(mdl_step::specs::Effects::flow_effect))]
+#[tactic(auto, using(operands::proofs::Statuses::packed_bits), unfolding(mdl_effect::specs::FlowEffects::flow_effect))]
 pub(crate) fn run_flag(regs: &mut Regs, flags: &mut Flags, insn: &Insn)
     requires flag { is_flag insn.now.op ≡ true }
     ensures { (back : ℕ) (serve : Serve) (m : Mem) → (followed (whole regs.new flags.new), m)
@@ -100,7 +101,7 @@ pub(crate) fn run_flag(regs: &mut Regs, flags: &mut Flags, insn: &Insn)
 
 /// An instruction whose operands have the form of its mnemonic.
 #[rattlefmt::skip]
-#[tactic(auto, unfolding(mdl_step::specs::Effects::flow_effect))]
+#[tactic(auto, unfolding(mdl_effect::specs::FlowEffects::flow_effect))]
 fn run_formed<L: Linear>(regs: &mut Regs, flags: &mut Flags, lin: &mut L, insn: &Insn, back: u32) -> Result<Next, Fault>
     requires flow { is_flow insn.now.op ≡ true }
     requires formed { IsFormed insn.now }
@@ -136,7 +137,6 @@ fn run_formed<L: Linear>(regs: &mut Regs, flags: &mut Flags, lin: &mut L, insn: 
 ///
 /// The status flags of EFLAGS are those of `flags`. A fault leaves what was held before it to be
 /// dropped. ENTER may hold 128 bytes.
-#[tactic(auto, using(mdl_step::proofs::EffectLaws::effects))]
 pub fn run<L: Linear>(
     regs: &mut Regs,
     flags: &mut Flags,
@@ -148,8 +148,9 @@ pub fn run<L: Linear>(
     requires runs { IsTrue (runs_flow insn.now) }
     requires room { HasRoom (L.seen lin.old) 128 }
     ensures run { (ran result (whole regs.new flags.new), L.seen lin.new)
-        ≡ tried (by_pick L.pick) 0 (effect insn.now (whole regs.old flags.old) back (whole regs.new flags.new).eflags) (L.seen lin.old) }
+        ≡ tried (by_pick L.pick) 0 (flow_effect insn.now (whole regs.old flags.old) back) (L.seen lin.old) }
     ensures unchanged { OnErr result ((regs.new ≡ regs.old) × (flags.new ≡ flags.old)) }
+    ensures steady { Steady (whole regs.old flags.old) (whole regs.new flags.new) }
     ensures keeps { Keeps (L.seen lin.old) (L.seen lin.new) }
 {
     run_formed(regs, flags, lin, insn, back)

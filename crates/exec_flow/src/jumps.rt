@@ -9,9 +9,9 @@ ghost use Rattle.mdl_state.specs.Serving.{Serve, by_pick, outcome, on};
 ghost use Rattle.mdl_state.specs.Accesses.{Keeps};
 ghost use Rattle.mdl_state.specs.Attempt.{Plan, tried};
 ghost use Rattle.mdl_cpu.specs.Addresses.{HasAddress};
-ghost use Rattle.mdl_step.specs.Operands.{After, reading};
-ghost use Rattle.mdl_step.specs.FlowEffects.{landing, target_by, branching, jump_plan, jump_if_plan};
-ghost use Rattle.mdl_step.specs.Forms.{IsOf};
+ghost use Rattle.mdl_effect.specs.Operands.{After, reading};
+ghost use Rattle.mdl_effect.specs.Jumps.{landing, target_by, branching, jump_plan, jump_if_plan};
+ghost use Rattle.mdl_effect.specs.Forms.{IsOf};
 ghost use Rattle.operands.specs.Whole.{whole, ran};
 ghost use Rattle.exec_flow.specs.Near.{is_relative, displacement_of};
 
@@ -117,7 +117,7 @@ pub(crate) fn target<L: Linear>(
 }
 
 /// JMP.
-#[tactic(auto, unfolding(mdl_step::specs::FlowEffects::jump_plan))]
+#[tactic(auto, unfolding(mdl_effect::specs::Jumps::jump_plan))]
 pub(crate) fn jump<L: Linear>(
     regs: &mut Regs,
     lin: &mut L,
@@ -150,7 +150,7 @@ pub(crate) fn branch(taken: bool, regs: &mut Regs, insn: &Insn, back: u32) -> Re
 }
 
 /// Jcc.
-#[tactic(auto, unfolding(mdl_step::specs::FlowEffects::jump_if_plan))]
+#[tactic(auto, unfolding(mdl_effect::specs::Jumps::jump_if_plan))]
 pub(crate) fn jump_if(
     number: u8,
     regs: &mut Regs,

@@ -5,8 +5,8 @@ ghost use Rattle.mdl_state.specs.State.{Mem};
 ghost use Rattle.mdl_state.specs.Bytes.{bound_of};
 ghost use Rattle.mdl_state.specs.Serving.{Serve};
 ghost use Rattle.mdl_state.specs.Attempt.{tried};
-ghost use Rattle.mdl_step.specs.Operands.{address_size};
-ghost use Rattle.mdl_step.specs.FlowEffects.{loop_plan, jump_if_none_plan};
+ghost use Rattle.mdl_effect.specs.Operands.{address_size};
+ghost use Rattle.mdl_effect.specs.Jumps.{loop_plan, jump_if_none_plan};
 ghost use Rattle.operands.specs.Whole.{whole, ran};
 ghost use Rattle.exec_flow.specs.Near.{is_relative, fallen_count};
 
@@ -26,7 +26,7 @@ fn fallen(regs: &Regs, wide: bool) -> u32
 }
 
 /// LOOP, LOOPE and LOOPNE. The count is set after the check of the new EIP.
-#[tactic(auto, using(crate::proofs::Targets::loops), unfolding(mdl_step::specs::FlowEffects::loop_plan))]
+#[tactic(auto, using(crate::proofs::Targets::loops), unfolding(mdl_effect::specs::Jumps::loop_plan))]
 pub(crate) fn count_down(also: bool, regs: &mut Regs, insn: &Insn, back: u32) -> Result<Next, Fault>
     requires near { is_relative insn.now.a ≡ true }
     ensures run { (flags : ℕ) (serve : Serve) (m : Mem) → (ran result (whole regs.new flags), m)
@@ -48,7 +48,7 @@ pub(crate) fn count_down(also: bool, regs: &mut Regs, insn: &Insn, back: u32) ->
 }
 
 /// JCXZ and JECXZ.
-#[tactic(auto, unfolding(mdl_step::specs::FlowEffects::jump_if_none_plan))]
+#[tactic(auto, unfolding(mdl_effect::specs::Jumps::jump_if_none_plan))]
 pub(crate) fn jump_if_none(regs: &mut Regs, insn: &Insn, back: u32) -> Result<Next, Fault>
     requires near { is_relative insn.now.a ≡ true }
     ensures run { (flags : ℕ) (serve : Serve) (m : Mem) → (ran result (whole regs.new flags), m)

@@ -7,8 +7,8 @@ ghost use Rattle.mdl_state.specs.Accesses.{Keeps, HasRoom};
 ghost use Rattle.mdl_state.specs.Attempt.{tried};
 ghost use Rattle.mdl_cpu.specs.Addresses.{HasAddress};
 ghost use Rattle.mdl_cpu.specs.Loads.{answered};
-ghost use Rattle.mdl_step.specs.StackEffects.{pop_operand_plan, popped_into, pop_all, popa_plan};
-ghost use Rattle.mdl_step.specs.Forms.{IsOf};
+ghost use Rattle.mdl_effect.specs.StackEffects.{pop_operand_plan, popped_into, pop_all, popa_plan};
+ghost use Rattle.mdl_effect.specs.Forms.{IsOf};
 ghost use Rattle.operands.specs.Whole.{whole, ran};
 
 use mdl_insn::Insn;
@@ -32,7 +32,7 @@ const POPPED: [u8; 8] = [
 ];
 
 /// POP but of a segment register. The address of an operand in memory has the new stack pointer.
-#[tactic(auto, using(mdl_state::specs::Rules::attempts), unfolding(mdl_step::specs::StackEffects::pop_operand_plan))]
+#[tactic(auto, using(mdl_state::specs::Rules::attempts), unfolding(mdl_effect::specs::StackEffects::pop_operand_plan))]
 pub(crate) fn pop_operand<L: Linear>(
     regs: &mut Regs,
     lin: &mut L,
@@ -88,7 +88,7 @@ fn pop_all<L: Linear>(regs: &mut Regs, lin: &mut L, size: Size, numbers: &[u8]) 
 }
 
 /// POPA.
-#[tactic(auto, using(mdl_state::specs::Rules::attempts), unfolding(mdl_step::specs::StackEffects::popa_plan))]
+#[tactic(auto, using(mdl_state::specs::Rules::attempts), unfolding(mdl_effect::specs::StackEffects::popa_plan))]
 pub(crate) fn pop_registers<L: Linear>(
     regs: &mut Regs,
     lin: &mut L,

@@ -7,9 +7,9 @@ ghost use Rattle.mdl_state.specs.Accesses.{Keeps, HasRoom};
 ghost use Rattle.mdl_state.specs.Attempt.{tried};
 ghost use Rattle.mdl_cpu.specs.Addresses.{HasAddress};
 ghost use Rattle.mdl_cpu.specs.Loads.{answered};
-ghost use Rattle.mdl_step.specs.Operands.{is_segment};
-ghost use Rattle.mdl_step.specs.StackEffects.{push_operand_plan, push_all, pusha_plan};
-ghost use Rattle.mdl_step.specs.Forms.{IsOf};
+ghost use Rattle.mdl_effect.specs.Operands.{is_segment};
+ghost use Rattle.mdl_effect.specs.StackEffects.{push_operand_plan, push_all, pusha_plan};
+ghost use Rattle.mdl_effect.specs.Forms.{IsOf};
 ghost use Rattle.operands.specs.Whole.{whole, ran};
 ghost use Rattle.exec_flow.specs.Stacked.{selector_of, numbers_of};
 
@@ -105,7 +105,7 @@ fn push_all<L: Linear>(
 }
 
 /// PUSHA: the registers as they stand before the first is pushed.
-#[tactic(auto, using(mdl_state::specs::Rules::attempts), unfolding(mdl_step::specs::StackEffects::pusha_plan))]
+#[tactic(auto, using(mdl_state::specs::Rules::attempts), unfolding(mdl_effect::specs::StackEffects::pusha_plan))]
 pub(crate) fn push_registers<L: Linear>(
     regs: &mut Regs,
     lin: &mut L,

@@ -1,6 +1,6 @@
 -- Which accesses a segment allows, and at which linear address. Manual, chapters 5, 6 and 14.
 -- Own: Offsets are whole numbers.
-use Rattle.std.specs.Prelude.{ℕ, zero, suc, ◌+◌, ◌-◌, ◌%◌, ◌^◌, ◌&&◌, not, nat_le, nat_lt, Bool, true, if◌then◌else◌, Result, Ok, Err}
+use Rattle.std.specs.Prelude.{ℕ, zero, suc, ◌+◌, ◌-◌, ◌%◌, ◌^◌, ◌&&◌, not, nat_le, nat_lt, Bool, true, false, if◌then◌else◌, Result, Ok, Err}
 use Rattle.mdl_state.specs.declared.Size.{Size}
 use Rattle.mdl_state.specs.declared.Seg.{Seg}
 use Rattle.mdl_state.specs.declared.Seg.TheVariants.{Ss}
@@ -9,7 +9,8 @@ use Rattle.mdl_state.specs.declared.Hidden.{Hidden}
 use Rattle.mdl_state.specs.declared.Fault.{Fault}
 use Rattle.mdl_state.specs.Bytes.{bytes_of}
 use Rattle.mdl_state.specs.Registers.{seg_of}
-use Rattle.mdl_cpu.specs.Segments.{is_protected, is_unusable, is_writable, is_readable, grows_down, is_big}
+use Rattle.mdl_state.specs.Attempt.{Plan, Done, Load, Store, checked}
+use Rattle.mdl_cpu.specs.Segments.{is_protected, who_of, is_unusable, is_writable, is_readable, grows_down, is_big}
 
 -- the highest offset of a segment that grows down
 abbrev pub top_of : Hidden → ℕ
@@ -46,3 +47,11 @@ checked_in protected h seg offset size write =
 -- the linear address of an access, or its fault
 unfoldable pub legal : Regs → Seg → ℕ → Size → Bool → Result ℕ Fault
 legal r seg offset size write = checked_in (is_protected r) (seg_of r seg) seg offset size write
+
+-- a number read from a segment
+abbrev pub load_from : Regs → Seg → ℕ → Size → Plan ℕ
+load_from r seg offset size = checked (legal r seg offset size false) (λ at. Load at size (who_of r) (λ value. Done value))
+
+-- a number written to a segment
+abbrev pub store_to : Regs → Seg → ℕ → Size → ℕ → Plan (Unit {0})
+store_to r seg offset size value = checked (legal r seg offset size true) (λ at. Store at size value (who_of r) (Done tt))

@@ -1,4 +1,9 @@
 pub mod Addresses
 pub mod Segments
+pub mod Faults
+pub mod SystemFlags
+pub mod Steady
 pub mod Access
+pub mod Stack
 pub mod Loads
+pub mod Breakpoints

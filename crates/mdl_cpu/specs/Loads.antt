@@ -1,15 +1,15 @@
 -- Loads of segment registers in real mode. Manual, chapter 14.
-use Rattle.std.specs.Prelude.{ℕ, ◌*◌, slice_set, Result, Ok, Err}
+use Rattle.std.specs.Prelude.{ℕ, ◌*◌, Result, Ok, Err}
 use Rattle.mdl_state.specs.declared.Regs.{Regs}
 use Rattle.mdl_state.specs.declared.Seg.{Seg}
 use Rattle.mdl_state.specs.declared.Fault.{Fault}
-use Rattle.mdl_state.specs.Registers.{seg_number, seg_of}
+use Rattle.mdl_state.specs.Registers.{seg_of, with_seg}
 use Rattle.mdl_state.specs.Serving.{Outcome, Passed, Failed}
 use Rattle.mdl_state.specs.Attempt.{Plan, Done}
 
 -- a segment register with this selector and 16 times it as its base; limit and rights stay
 unfoldable pub with_selector : Regs → Seg → ℕ → Regs
-with_selector r seg sel = record r { seg = slice_set r.seg (seg_number seg) (record (seg_of r seg) { sel = sel; base = 16 * sel }) }
+with_selector r seg sel = with_seg r seg (record (seg_of r seg) { sel = sel; base = 16 * sel })
 
 -- the load of a segment register: in real mode no descriptor is read, and none is refused
 abbrev pub real_load : Regs → Seg → ℕ → Plan Regs

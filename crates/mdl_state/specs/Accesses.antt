@@ -11,6 +11,7 @@ use Rattle.mdl_state.specs.declared.Place.{Place}
 use Rattle.mdl_state.specs.State.{Physical, Mem}
 use Rattle.mdl_state.specs.Bytes.{bytes_of}
 use Rattle.mdl_state.specs.Memory.{gated, byte_at, placed}
+use Rattle.mdl_state.specs.Watches.{noted}
 use Rattle.mdl_state.specs.Serving.{Outcome, Passed, Serve, on}
 
 -- ---- where an access lies
@@ -23,16 +24,16 @@ bytes_here lin size = min (bytes_of size) (0x1000 - lin % 0x1000)
 abbrev pub in_frame : Entry → ℕ → ℕ
 in_frame entry lin = entry.frame + lin % 0x1000
 
--- The place of an access, with each page that it touches served, the lower one first. With paging off
--- the linear address is the physical one.
+-- The place of an access, with each page that it touches served, the lower one first, and the breakpoints
+-- noted that it meets. With paging off the linear address is the physical one.
 unfoldable pub translated : Serve → Mem → ℕ → Size → Access → Outcome Place × Mem
 translated serve m lin size access =
     let cut = bytes_here lin size in
     let next = (lin + cut) % 2 ^ 32 in
-    if not m.paging then (Passed (record { first = lin; second = next; cut = cut }), m)
+    if not m.paging then (Passed (record { first = lin; second = next; cut = cut }), noted m lin size access)
     else on (serve m lin access) (λ one n.
-    if cut == bytes_of size then (Passed (record { first = in_frame one lin; second = 0; cut = cut }), n)
-    else on (serve n next access) (λ two o. (Passed (record { first = in_frame one lin; second = in_frame two next; cut = cut }), o)))
+    if cut == bytes_of size then (Passed (record { first = in_frame one lin; second = 0; cut = cut }), noted n lin size access)
+    else on (serve n next access) (λ two o. (Passed (record { first = in_frame one lin; second = in_frame two next; cut = cut }), noted o lin size access)))
 
 -- the physical address of byte n of a place
 abbrev pub byte_place : Place → ℕ → ℕ

@@ -50,7 +50,7 @@ reset_core = record { regs = reset_regs; activity = Running; latches = clear_lat
 
 -- physical memory reached with paging off and nothing cached
 abbrev pub plain_mem : Physical → Mem
-plain_mem physical = record { physical = physical; paging = false; cr3 = 0; cache = empty; held = []; walks = 0; served = [] }
+plain_mem physical = record { physical = physical; paging = false; cr3 = 0; cache = empty; held = []; walks = 0; served = []; watch = []; hits = 0 }
 
 -- the state after a reset, with these bytes of RAM and ROM; A20 is on
 abbrev pub reset_state : List ℕ → List ℕ → State

@@ -10,8 +10,9 @@ use Rattle.mdl_state.specs.declared.Fault.{Fault}
 use Rattle.mdl_state.specs.declared.Who.{Who}
 use Rattle.mdl_state.specs.State.{Physical, Mem, Item, Old, Walk}
 use Rattle.mdl_state.specs.Bytes.{bytes_of}
+use Rattle.mdl_state.specs.Watches.{noted, unwatched}
 use Rattle.mdl_state.specs.PageWalk.{walk}
-use Rattle.mdl_state.specs.Serving.{Serve, Pick, Policy, Outcome, Passed, Failed, NoStep, on, serve_item, by_pick, by_list, with_items, from_cache, after_walk, counted}
+use Rattle.mdl_state.specs.Serving.{Serve, Pick, Policy, Outcome, Passed, Failed, NoStep, on, handled, serve_item, by_pick, by_list, with_items, from_cache, after_walk, counted}
 use Rattle.mdl_state.specs.Accesses.{translated, got, held_at, read_at, written_at, bytes_here, committed, discarded}
 use Rattle.mdl_state.specs.Attempt.{Plan, Done, Fail, Load, Store, Translate, Get, Hold, Input, tried, finished, attempt}
 
@@ -75,6 +76,23 @@ on_follows old (Passed x, m) k f l p q = let t = q x m in record {
 on_follows old (Failed fault, m) k f l p q = record { items = p.items; same = λ rest. ap (λ w. on w l) (p.same rest); walks = p.walks }
 on_follows old (NoStep, m) k f l p q = record { items = p.items; same = λ rest. ap (λ w. on w l) (p.same rest); walks = p.walks }
 
+-- the same, with a part of its own behind a fault
+pub handled_follows : {A B : Type 0} (old : Mem) (r : Outcome A × Mem) (k : A → Mem → Outcome B × Mem) (h : Fault → Mem → Outcome B × Mem) (f : Mem → Outcome A × Mem) (l : A → Mem → Outcome B × Mem) (g : Fault → Mem → Outcome B × Mem) → Follows old r f → ((x : A) (n : Mem) → Follows n (k x n) (l x)) → ((e : Fault) (n : Mem) → Follows n (h e n) (g e)) → Follows old (handled r k h) (λ n. handled (f n) l g)
+handled_follows old (Passed x, m) k h f l g p q s = let t = q x m in record {
+  items = p.items ++ t.items;
+  same = λ rest. ap (λ is. handled (f (with_items old is)) l g) (append_assoc p.items t.items rest) ∙ ap (λ w. handled w l g) (p.same (t.items ++ rest)) ∙ t.same rest;
+  walks = t.walks ∙ ap (walks_after t.items) p.walks ∙ sym (walks_after-append p.items t.items old.walks);
+}
+handled_follows old (Failed e, m) k h f l g p q s = let t = s e m in record {
+  items = p.items ++ t.items;
+  same = λ rest. ap (λ is. handled (f (with_items old is)) l g) (append_assoc p.items t.items rest) ∙ ap (λ w. handled w l g) (p.same (t.items ++ rest)) ∙ t.same rest;
+  walks = t.walks ∙ ap (walks_after t.items) p.walks ∙ sym (walks_after-append p.items t.items old.walks);
+}
+handled_follows old (NoStep, m) k h f l g p q s = record { items = p.items; same = λ rest. ap (λ w. handled w l g) (p.same rest); walks = p.walks }
+
+noted_follows : {R : Type 0} (m : Mem) (lin : ℕ) (size : Size) (access : Access) (x : R) → Follows m (x, noted m lin size access) (λ n. (x, noted n lin size access))
+noted_follows m lin size access x = record { items = []; same = λ rest. refl; walks = refl }
+
 either_follows : {R : Type 0} (old : Mem) (b : Bool) (x y : R × Mem) (f g : Mem → R × Mem) → Follows old x f → Follows old y g → Follows old (if b then x else y) (λ n. if b then f n else g n)
 either_follows old true x y f g p q = p
 either_follows old false x y f g p q = q
@@ -96,18 +114,18 @@ Meets pick policy = (m : Mem) (lin : ℕ) (access : Access) → policy (with_ite
 pub page_follows : (pick : Pick) (policy : Policy) → Meets pick policy
     → (m : Mem) (lin : ℕ) (access : Access) → Follows m (by_pick pick m lin access) (λ n. by_list policy n lin access)
 page_follows pick policy meets m lin access = record {
-  items = pick m lin access ∷ [];
-  same = λ rest. rw (meets m lin access) ((serve_moves rest (pick m lin access) m lin access).same);
-  walks = serve_walks (pick m lin access) m lin access;
+  items = pick (unwatched m) lin access ∷ [];
+  same = λ rest. rw (meets (unwatched m) lin access) ((serve_moves rest (pick (unwatched m) lin access) m lin access).same);
+  walks = serve_walks (pick (unwatched m) lin access) m lin access;
 }
 
 module _ (pick : Pick) (listed : Serve) (page : (m : Mem) (lin : ℕ) (access : Access) → Follows m (by_pick pick m lin access) (λ n. listed n lin access)) where
   translated_follows : (m : Mem) (lin : ℕ) (size : Size) (access : Access) → Follows m (translated (by_pick pick) m lin size access) (λ n. translated listed n lin size access)
   unfolding translated
-  translated_follows m lin size access = paging_follows m _ _ _ _ (stays_follow m _)
+  translated_follows m lin size access = paging_follows m _ _ _ _ (noted_follows m lin size access _)
       (on_follows m (by_pick pick m lin access) _ (λ n. listed n lin access) _ (page m lin access) (λ one n.
-      either_follows n (bytes_here lin size == bytes_of size) _ _ _ _ (stays_follow n _)
-      (on_follows n (by_pick pick n ((lin + bytes_here lin size) % 2 ^ 32) access) _ (λ o. listed o ((lin + bytes_here lin size) % 2 ^ 32) access) _ (page n ((lin + bytes_here lin size) % 2 ^ 32) access) (λ two o. stays_follow o _))))
+      either_follows n (bytes_here lin size == bytes_of size) _ _ _ _ (noted_follows n lin size access _)
+      (on_follows n (by_pick pick n ((lin + bytes_here lin size) % 2 ^ 32) access) _ (λ o. listed o ((lin + bytes_here lin size) % 2 ^ 32) access) _ (page n ((lin + bytes_here lin size) % 2 ^ 32) access) (λ two o. noted_follows o lin size access _))))
 
   read_follows : (m : Mem) (lin : ℕ) (size : Size) (who : Who) → Follows m (read_at (by_pick pick) m lin size who) (λ n. read_at listed n lin size who)
   unfolding read_at

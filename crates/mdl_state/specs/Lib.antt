@@ -1,11 +1,15 @@
 pub mod State
+pub mod Machine
 pub mod Bytes
 pub mod Memory
+pub mod Watches
 pub mod PageWalk
 pub mod Serving
 pub mod Accesses
 pub mod Attempt
 pub mod AttemptLaws
+pub mod Ends
+pub mod WatchLaws
 pub mod Choices
 pub mod Restart
 pub mod Policy

@@ -50,6 +50,6 @@ with_reg r n B1 value =
 with_reg r n B2 value = record r { gpr = slice_set r.gpr n (with_low_word (slice_index r.gpr n) value) }
 with_reg r n B4 value = record r { gpr = slice_set r.gpr n value }
 
--- CS loaded in real mode: its base is 16 times the selector, and its limit and rights stay
-unfoldable pub with_code_selector : Regs → ℕ → Regs
-with_code_selector r sel = record r { seg = slice_set r.seg (seg_number Cs) (record (seg_of r Cs) { sel = sel; base = 16 * sel }) }
+-- a segment register set
+unfoldable pub with_seg : Regs → Seg → Hidden → Regs
+with_seg r seg hidden = record r { seg = slice_set r.seg (seg_number seg) hidden }

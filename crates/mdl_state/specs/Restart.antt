@@ -14,6 +14,7 @@ use Rattle.mdl_state.specs.declared.Who.{Who}
 use Rattle.mdl_state.specs.State.{Physical, Mem, Item, Old, Walk}
 use Rattle.mdl_state.specs.Bytes.{bit}
 use Rattle.mdl_state.specs.Memory.{byte_at, placed, gated, is_ram}
+use Rattle.mdl_state.specs.Watches.{noted, unwatched}
 use Rattle.mdl_state.specs.PageWalk.{marked, both_marked, touched, walk, is_write}
 use Rattle.mdl_state.specs.Serving.{Outcome, Passed, Failed, NoStep, Serve, Pick, Policy, on, serve_item, by_items, by_list, by_pick, with_items, from_cache, after_walk}
 use Rattle.mdl_state.specs.Accesses.{translated, got, held_at, read_at, written_at, discarded}
@@ -26,9 +27,9 @@ unmark b = b % 32 + 128 * (b / 128)
 abbrev pub bare_physical : Physical → Physical
 bare_physical p = record p { ram = map unmark p.ram }
 
--- memory without the cache, what is held, the counts, and the bits that walks set
+-- memory without the cache, what is held, the counts, the bits that walks set, and the breakpoints met
 abbrev pub bare : Mem → Mem
-bare m = record m { physical = bare_physical m.physical; cache = empty; held = []; walks = 0; served = [] }
+bare m = record m { physical = bare_physical m.physical; cache = empty; held = []; walks = 0; served = []; hits = 0 }
 
 five : (b : ℕ) → unmark (cond (bit b 5) b (b + 32)) ≡ unmark b
 five b = elim (eqb_tells ((b / 32) % 2) 1) as (λ _. unmark (cond (bit b 5) b (b + 32)) ≡ unmark b) [
@@ -91,6 +92,9 @@ either old false x y p q = q
 stays : {R : Type 0} (m : Mem) (x : R) → Leaves m (x, m)
 stays m x = record { same = refl }
 
+notes : {R : Type 0} (m : Mem) (lin : ℕ) (size : Size) (access : Access) (x : R) → Leaves m (x, noted m lin size access)
+notes m lin size access x = record { same = refl }
+
 after_bare : (m : Mem) (page : ℕ) (dropped : List ℕ) (r : Result Entry Fault × Physical) → Marks m.physical r → Leaves m (after_walk m page dropped r)
 after_bare m page dropped (Ok e, n) h = record { same = ap (λ (p : Physical). record (bare m) { physical = p }) h.same }
 after_bare m page dropped (Err f, n) h = record { same = ap (λ (p : Physical). record (bare m) { physical = p }) h.same }
@@ -106,14 +110,14 @@ serve_item_bare (Walk dropped) m lin access = after_bare m _ dropped (walk m.phy
 
 by_items_bare : (policy : Policy) (m : Mem) (is : List Item) (lin : ℕ) (access : Access) → Leaves m (by_items policy m is lin access)
 by_items_bare policy m [] lin access = record { same = refl }
-by_items_bare policy m (i ∷ is) lin access = either m (policy (with_items m []) lin access i) _ _ (record { same = (serve_item_bare i (with_items m is) lin access).same }) (record { same = refl })
+by_items_bare policy m (i ∷ is) lin access = either m (policy (with_items (unwatched m) []) lin access i) _ _ (record { same = (serve_item_bare i (with_items m is) lin access).same }) (record { same = refl })
 
 -- what serves pages changes no more than that
 pub record OnlyMarks (serve : Serve) : Type 0 where
   pub each : (m : Mem) (lin : ℕ) (access : Access) → Leaves m (serve m lin access)
 
 pub by_pick_marks : (pick : Pick) → OnlyMarks (by_pick pick)
-by_pick_marks pick = record { each = λ m lin access. serve_item_bare (pick m lin access) m lin access }
+by_pick_marks pick = record { each = λ m lin access. serve_item_bare (pick (unwatched m) lin access) m lin access }
 
 pub by_list_marks : (policy : Policy) → OnlyMarks (by_list policy)
 by_list_marks policy = record { each = λ m lin access. by_items_bare policy m m.served lin access }
@@ -130,7 +134,7 @@ holds_leaves m place size v x = record { same = refl }
 module _ (serve : Serve) (marks : OnlyMarks serve) where
   translated_bare : (m : Mem) (lin : ℕ) (size : Size) (access : Access) → Leaves m (translated serve m lin size access)
   unfolding translated
-  translated_bare m lin size access = search (either, stays, on_bare, marks.each)
+  translated_bare m lin size access = search (either, notes, on_bare, marks.each)
 
   read_bare : (m : Mem) (lin : ℕ) (size : Size) (who : Who) → Leaves m (read_at serve m lin size who)
   unfolding read_at
@@ -163,7 +167,7 @@ finished_bare (Passed x, m) old h f = absurd f
 finished_bare (Failed e, m) old h f = (h.same, refl)
 finished_bare (NoStep, m) old h f = absurd f
 
--- Restart: an attempt that ends in a fault leaves memory as it was but for the cache and the marks of
--- walks, and holds nothing.
+-- Restart: an attempt that ends in a fault leaves memory as it was but for the cache, the marks of
+-- walks and the breakpoints met, and holds nothing.
 pub restart : {A : Type 0} (serve : Serve) → OnlyMarks serve → (given : ℕ) (plan : Plan A) (m : Mem) → IsFailed (attempt serve given plan m).0 → (bare (attempt serve given plan m).1 ≡ bare m) × ((attempt serve given plan m).1.held ≡ [])
 restart serve marks given plan m f = finished_bare (tried serve given plan m) m (tried_bare serve marks given plan m) f

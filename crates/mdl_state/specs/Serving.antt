@@ -7,6 +7,7 @@ use Rattle.mdl_state.specs.declared.Access.{Access}
 use Rattle.mdl_state.specs.declared.Fault.{Fault}
 use Rattle.mdl_state.specs.declared.Entry.{Entry}
 use Rattle.mdl_state.specs.State.{Physical, Mem, Item, Old, Walk}
+use Rattle.mdl_state.specs.Watches.{unwatched}
 use Rattle.mdl_state.specs.PageWalk.{walk, permits, is_write}
 
 -- what comes of a part of an attempt: an answer, a fault, or that the items do not fit
@@ -25,6 +26,12 @@ abbrev pub on : {A B : Type 0} → Outcome A × Mem → (A → Mem → Outcome B
 on (Passed x, m) k = k x m
 on (Failed fault, m) k = (Failed fault, m)
 on (NoStep, m) k = (NoStep, m)
+
+-- going on with the answer or with the fault, and the memory that a part leaves
+abbrev pub handled : {A B : Type 0} → Outcome A × Mem → (A → Mem → Outcome B × Mem) → (Fault → Mem → Outcome B × Mem) → Outcome B × Mem
+handled (Passed x, m) k l = k x m
+handled (Failed fault, m) k l = l fault m
+handled (NoStep, m) k l = (NoStep, m)
 
 -- a way of serving pages: the entry for an access to a linear address, and the memory it leaves
 abbrev pub Serve : Type 0
@@ -77,14 +84,14 @@ unfoldable pub serve_item : Item → Mem → ℕ → Access → Outcome Entry ×
 serve_item Old m lin access = from_cache m (old_entry m lin access)
 serve_item (Walk dropped) m lin access = after_walk m (page_of lin) dropped (walk m.physical m.cr3 lin access)
 
--- a rule that names the item, from what is seen, the address and the access
+-- a rule that names the item, from what is seen beside the breakpoints, the address and the access
 abbrev pub Pick : Type 0
 Pick = Mem → ℕ → Access → Item
 
 abbrev pub by_pick : Pick → Serve
-by_pick pick m lin access = serve_item (pick m lin access) m lin access
+by_pick pick m lin access = serve_item (pick (unwatched m) lin access) m lin access
 
--- a test of the items
+-- a test of the items, from the same
 abbrev pub Policy : Type 0
 Policy = Mem → ℕ → Access → Item → Bool
 
@@ -95,7 +102,7 @@ with_items m items = record m { served = items }
 -- the next item of the list serves; there is no step where none is left, or where it fails the test
 abbrev pub by_items : Policy → Mem → List Item → ℕ → Access → Outcome Entry × Mem
 by_items policy m [] lin access = (NoStep, m)
-by_items policy m (item ∷ items) lin access = if policy (with_items m []) lin access item then serve_item item (with_items m items) lin access else (NoStep, m)
+by_items policy m (item ∷ items) lin access = if policy (with_items (unwatched m) []) lin access item then serve_item item (with_items m items) lin access else (NoStep, m)
 
 abbrev pub by_list : Policy → Serve
 by_list policy m lin access = by_items policy m m.served lin access

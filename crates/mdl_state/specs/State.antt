@@ -6,6 +6,7 @@ use Rattle.mdl_state.specs.declared.Regs.{Regs}
 use Rattle.mdl_state.specs.declared.Activity.{Activity}
 use Rattle.mdl_state.specs.declared.Latches.{Latches}
 use Rattle.mdl_state.specs.declared.Entry.{Entry}
+use Rattle.mdl_state.specs.declared.Watch.{Watch}
 
 -- physical memory: the bytes of RAM, the bytes of the ROM, and whether the line A20 is on
 pub record Physical : Type 0 where
@@ -21,7 +22,8 @@ pub data Item : Type 0 where
 
 -- Memory as the processor sees it. The cache has an entry for some linear pages; a held byte stands
 -- with its physical address, the oldest first; `walks` counts the walks; `served` has the items
--- that a step has not used yet, and is empty between steps. Own: The walk number in the state.
+-- that a step has not used yet, and is empty between steps. `watch` has the data breakpoints that are
+-- looked for, and `hits` the bits of DR6 of those that were met. Own: The walk number in the state.
 pub record Mem : Type 0 where
   pub physical : Physical
   pub paging : Bool
@@ -30,6 +32,8 @@ pub record Mem : Type 0 where
   pub held : List (ℕ × ℕ)
   pub walks : ℕ
   pub served : List Item
+  pub watch : List Watch
+  pub hits : ℕ
 
 -- the processor, and the number of steps done
 pub record Core : Type 0 where

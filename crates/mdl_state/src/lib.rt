@@ -121,6 +121,28 @@ pub struct Entry {
     pub dirty: bool,
 }
 
+/// A data breakpoint: where it is, how many bytes it watches, whether reads count beside writes, and
+/// the bits of DR6 that a match sets.
+#[derive(Clone, Copy, Debug, PartialEq, Eq)]
+pub struct Watch {
+    pub lin: u32,
+    pub size: Size,
+    pub reads: bool,
+    pub bits: u16,
+}
+
+impl Default for Watch {
+    /// No bits, so that it meets nothing that shows.
+    fn default() -> Watch {
+        Watch {
+            lin: 0,
+            size: Size::B1,
+            reads: false,
+            bits: 0,
+        }
+    }
+}
+
 /// What happens to the machine between two steps.
 #[derive(Clone, Copy, Debug, PartialEq, Eq)]
 pub enum EventKind {

@@ -8,11 +8,13 @@ use Rattle.mdl_insn.specs.declared.instruction.Operand.{Operand}
 use Rattle.mdl_insn.specs.declared.instruction.Operand.TheVariants.{Sreg, Far}
 use Rattle.mdl_insn.specs.declared.mnemonics.Op.{Op}
 use Rattle.mdl_insn.specs.declared.mnemonics.Op.TheVariants as ops
-use Rattle.mdl_step.specs.Operands.{is_segment}
-use Rattle.mdl_step.specs.DataEffects.{is_data, is_address, is_segment_pop, runs_data, data_effect}
-use Rattle.mdl_step.specs.StringEffects.{string_plan}
+use Rattle.mdl_effect.specs.Operands.{is_segment}
+use Rattle.mdl_effect.specs.DataEffects.{is_data, is_address, is_segment_pop, runs_data, data_effect}
+use Rattle.mdl_effect.specs.StringEffects.{string_plan}
 use Rattle.mdl_step.specs.FarEffects.{far_jump_plan}
-use Rattle.mdl_step.specs.Effects.{is_flow, is_pop, runs_flow, flow_effect, runs_string, is_far_jump, is_halt, halt_plan, is_built, effect}
+use Rattle.mdl_effect.specs.FlowEffects.{is_flow, is_pop, runs_flow, flow_effect}
+use Rattle.mdl_effect.specs.StringEffects.{runs_string}
+use Rattle.mdl_step.specs.Effects.{is_far_jump, is_halt, halt_plan, is_built, effect}
 
 -- what an instruction is of: none of the data mnemonics, none of the address ones, no POP of a segment register
 abbrev IsNoData : Op → Operand → Type 0

@@ -29,17 +29,19 @@ use Rattle.mdl_num.specs.Products.{mul_status, imul_word, imul_status, div_resul
 use Rattle.mdl_num.specs.Shifts.{double_shift_value, double_shift_flags}
 use Rattle.mdl_num.specs.Bits.{bit_test_status, scan_value, scan_status}
 use Rattle.mdl_num.specs.Decimal.{al_of, aam_value, aad_value, digits_status}
-use Rattle.mdl_step.specs.Operands.{After, Made, follow, no_such, is_nothing, is_plain, value_of, with_flags, memory_read, memory_change, reading, updating}
-use Rattle.mdl_step.specs.Arithmetic.{Answer, answer, flagged, binary, unary, with_product, high_number, signed_answer, divide_error, adjusted, binary_plan, compare_plan, unary_plan, multiply_plan, signed_multiply_plan, quotient_plan, divide_plan, signed_divide_plan, adjust_plan, digits_plan, from_digits_plan}
-use Rattle.mdl_step.specs.Shifts.{shifted, bit_place, bit_offset, bit_read, bit_change, bit_made, shift_plan, double_shift_plan, bit_test_plan, bit_change_plan, scan_plan}
-use Rattle.mdl_step.specs.DataEffects.{runs_data, by_mnemonic, data_effect}
+use Rattle.mdl_effect.specs.Operands.{After, Made, follow, no_such, is_nothing, is_plain, value_of, with_flags, memory_read, memory_change, reading, updating}
+use Rattle.mdl_effect.specs.Arithmetic.{Answer, answer, flagged, binary, unary, with_product, high_number, signed_answer, divide_error, adjusted, binary_plan, compare_plan, unary_plan, multiply_plan, signed_multiply_plan, quotient_plan, divide_plan, signed_divide_plan, adjust_plan, digits_plan, from_digits_plan}
+use Rattle.mdl_effect.specs.Shifts.{shifted, bit_place, bit_offset, bit_read, bit_change, bit_made, shift_plan, double_shift_plan, bit_test_plan, bit_change_plan, scan_plan}
+use Rattle.mdl_effect.specs.DataEffects.{runs_data, by_mnemonic, data_effect}
 use Rattle.mdl_insn.specs.declared.instruction.Rep.{Rep}
 use Rattle.mdl_insn.specs.declared.instruction.Rep.TheVariants as rep
 use Rattle.mdl_state.specs.declared.Next.TheVariants.{Follow}
-use Rattle.mdl_step.specs.FlowEffects.{count_of}
-use Rattle.mdl_step.specs.StringEffects.{read_source, read_destination, past_both, past_destination, compared, compare_strings_plan, scan_string_plan, iterate_by, iterate_plan, counted_after, repeating, string_plan}
+use Rattle.mdl_effect.specs.Operands.{count_of}
+use Rattle.mdl_effect.specs.StringEffects.{read_source, read_destination, past_both, past_destination, compared, compare_strings_plan, scan_string_plan, iterate_by, iterate_plan, counted_after, repeating, string_plan}
 use Rattle.mdl_step.specs.FarEffects.{far_jump_plan}
-use Rattle.mdl_step.specs.Effects.{runs_flow, flow_effect, runs_string, is_far_jump, is_halt, halt_plan, effect}
+use Rattle.mdl_effect.specs.FlowEffects.{runs_flow, flow_effect}
+use Rattle.mdl_effect.specs.StringEffects.{runs_string}
+use Rattle.mdl_step.specs.Effects.{is_far_jump, is_halt, halt_plan, effect}
 
 -- a fault for one number is that for each other
 pub record SameFault {A : Type 0} (plan : ℕ → Plan A) : Type 0 where

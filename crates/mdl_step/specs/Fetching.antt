@@ -10,7 +10,7 @@ use Rattle.mdl_state.specs.Registers.{seg_of}
 use Rattle.mdl_state.specs.Attempt.{Plan, Done, Load, then_plan, checked}
 use Rattle.mdl_cpu.specs.Segments.{who_of}
 use Rattle.mdl_cpu.specs.Access.{linear_of}
-use Rattle.mdl_step.specs.FlowEffects.{general_protection}
+use Rattle.mdl_cpu.specs.Faults.{general_protection}
 
 -- the linear address of byte n of the code at CS:EIP, unless it lies past the limit of CS
 abbrev pub code_at : Regs → ℕ → Result ℕ Fault

@@ -14,7 +14,7 @@ use Rattle.mdl_state.specs.Serving.{Policy, Passed, by_list, with_items}
 use Rattle.mdl_state.specs.Attempt.{tried, attempt}
 use Rattle.mdl_insn.specs.declared.instruction.Insn.{Insn}
 use Rattle.mdl_insn.specs.Spelling.{Spelt}
-use Rattle.mdl_step.specs.Operands.{After}
+use Rattle.mdl_effect.specs.Operands.{After}
 use Rattle.mdl_step.specs.Effects.{effect, is_built}
 use Rattle.mdl_step.specs.Fetching.{fetch_plan}
 use Rattle.mdl_step.specs.Boundary.{Boundary, Idle, Execute, Deliver, boundary}

@@ -1,6 +1,7 @@
 //! The ports of the board.
 
 ghost use Rattle.std.specs.Prelude.{◌≡◌, ◌<◌, ◌-◌, ℕ, Bool, true, false};
+ghost use Rattle.std.specs.Bool.{OnTrue, OnFalse};
 ghost use Rattle.mdl_state.specs.declared.Size.{Size};
 ghost use Rattle.mdl_state.specs.Bytes.{bound_of};
 
@@ -55,12 +56,13 @@ pub trait Ports {
     fn a20(&self) -> bool
         ensures { result ≡ gate self.now };
 
-    /// Whether a reset is asked for, which then no longer is.
+    /// Whether a reset is asked for, which then no longer is. Where none is, nothing changes.
     fn take_reset(&mut self) -> bool
         ensures asked { result ≡ asks self.old }
         ensures taken { asks self.new ≡ false }
         ensures a20 { gate self.new ≡ gate self.old }
-        ensures rest { forgets self.old self.new };
+        ensures forgotten { OnTrue result (forgets self.old self.new) }
+        ensures same { OnFalse result (self.new ≡ self.old) };
 }
 
 /// A board with nothing on it: a read gives all ones, a write is lost, the line A20 is on, and no

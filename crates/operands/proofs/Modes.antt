@@ -7,7 +7,7 @@ use Rattle.mdl_state.specs.declared.Seg.{Seg}
 use Rattle.mdl_state.specs.declared.Size.{Size}
 use Rattle.mdl_state.specs.Registers.{seg_of}
 use Rattle.mdl_cpu.specs.Access.{legal}
-use Rattle.mdl_step.specs.Stack.{stack_size}
+use Rattle.mdl_cpu.specs.Stack.{stack_size}
 use Rattle.lazy_flags.specs.Keeper.{with_status}
 use Rattle.operands.specs.Whole.{whole}
 use Rattle.operands.proofs.Statuses.{other_bit}

@@ -9,8 +9,8 @@ use Rattle.mdl_state.specs.Accesses.{got, held_at}
 use Rattle.mdl_insn.specs.declared.instruction.Operand.{Operand}
 use Rattle.mdl_insn.specs.declared.instruction.Operand.TheVariants.{At}
 use Rattle.mdl_cpu.specs.Addresses.{HasAddress}
-use Rattle.mdl_step.specs.Operands.{After, Made, is_plain}
-use Rattle.mdl_step.specs.Forms.{IsOf}
+use Rattle.mdl_effect.specs.Operands.{After, NoPort, Made, is_plain}
+use Rattle.mdl_effect.specs.Forms.{IsOf}
 
 -- no register and no number, of this size
 abbrev pub IsMemoryOf : Size → Operand → Type 0
@@ -23,4 +23,4 @@ is_memory _ = false
 
 -- what an operation makes of the number at a place, held there
 abbrev pub changed : Mem → Place → Size → (ℕ → Made) → Outcome After × Mem
-changed m place size make = (Passed (record { regs = (make (got m place size)).regs; next = Follow }), held_at m place size (make (got m place size)).value)
+changed m place size make = (Passed (record { regs = (make (got m place size)).regs; next = Follow; access = NoPort }), held_at m place size (make (got m place size)).value)

@@ -8,8 +8,8 @@ use Rattle.mdl_state.specs.declared.Next.TheVariants.{Follow}
 use Rattle.mdl_state.specs.Attempt.{Plan, Fail}
 use Rattle.mdl_state.specs.Serving.{Outcome, Passed, Failed}
 use Rattle.mdl_insn.specs.declared.instruction.Operand.{Operand}
-use Rattle.mdl_step.specs.Operands.{After, follow, is_plain}
-use Rattle.mdl_step.specs.Forms.{IsOf, IsWithin}
+use Rattle.mdl_effect.specs.Operands.{After, NoPort, follow, is_plain}
+use Rattle.mdl_effect.specs.Forms.{IsOf, IsWithin}
 use Rattle.lazy_flags.specs.Keeper.{with_status}
 
 -- the registers with the kept status flags in EFLAGS
@@ -18,12 +18,12 @@ whole r flags = record r { eflags = with_status r.eflags flags }
 
 -- what comes of an instruction: these registers, or the fault
 abbrev pub after : Result (Unit {0}) Fault → Regs → Outcome After
-after (Ok _) r = Passed (record { regs = r; next = Follow })
+after (Ok _) r = Passed (record { regs = r; next = Follow; access = NoPort })
 after (Err fault) r = Failed fault
 
 -- the same of an instruction that says what follows
 abbrev pub ran : Result Next Fault → Regs → Outcome After
-ran (Ok next) r = Passed (record { regs = r; next = next })
+ran (Ok next) r = Passed (record { regs = r; next = next; access = NoPort })
 ran (Err fault) r = Failed fault
 
 -- the same as a plan

@@ -1,7 +1,7 @@
 //! How wide a count and an index are.
 
 ghost use Rattle.std.specs.Prelude.{◌≡◌};
-ghost use Rattle.mdl_step.specs.Operands.{address_size};
+ghost use Rattle.mdl_effect.specs.Operands.{address_size};
 
 use mdl_state::Size;
 

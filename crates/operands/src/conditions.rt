@@ -2,7 +2,7 @@
 
 ghost use Rattle.std.specs.Prelude.{◌≡◌, ℕ};
 ghost use Rattle.lazy_flags.specs.Keeper.{with_status};
-ghost use Rattle.mdl_step.specs.Conditions.{is_less, holds, condition};
+ghost use Rattle.mdl_effect.specs.Conditions.{is_less, holds, condition};
 
 use lazy_flags::Flags;
 use mdl_num::{CF, OF, PF, SF, ZF};
@@ -33,7 +33,7 @@ fn holds(half: u8, flags: &Flags) -> bool
 }
 
 /// Whether the condition with this number holds.
-#[tactic(auto, unfolding(mdl_step::specs::Conditions::condition))]
+#[tactic(auto, unfolding(mdl_effect::specs::Conditions::condition))]
 pub fn condition(number: u8, flags: &Flags) -> bool
     ensures { (e : ℕ) → result ≡ condition number (with_status e flags.now) }
 {

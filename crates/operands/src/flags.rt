@@ -4,7 +4,7 @@ ghost use Rattle.std.specs.Prelude.{◌≡◌};
 ghost use Rattle.mdl_state.specs.declared.Regs.{Regs};
 ghost use Rattle.mdl_num.specs.Flags.{flags_after};
 ghost use Rattle.mdl_num.specs.declared.status.Status.{Status};
-ghost use Rattle.mdl_step.specs.Operands.{with_flags};
+ghost use Rattle.mdl_effect.specs.Operands.{with_flags};
 ghost use Rattle.operands.specs.Whole.{whole};
 
 use lazy_flags::Flags;

@@ -6,7 +6,8 @@ ghost use Rattle.mdl_state.specs.Serving.{by_pick, outcome, Failed};
 ghost use Rattle.mdl_state.specs.Accesses.{Keeps, IsPlace, HasRoom};
 ghost use Rattle.mdl_state.specs.Attempt.{tried};
 ghost use Rattle.mdl_cpu.specs.Access.{legal};
-ghost use Rattle.mdl_step.specs.Operands.{Made, load_from, store_to, change_in};
+ghost use Rattle.mdl_effect.specs.Operands.{Made, change_in};
+ghost use Rattle.mdl_cpu.specs.Access.{load_from, store_to};
 ghost use Rattle.operands.specs.Whole.{whole};
 ghost use Rattle.operands.specs.Memory.{changed};
 

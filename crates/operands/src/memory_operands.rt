@@ -6,8 +6,8 @@ ghost use Rattle.mdl_state.specs.Serving.{by_pick, outcome, Failed};
 ghost use Rattle.mdl_state.specs.Accesses.{Keeps, IsPlace, HasRoom};
 ghost use Rattle.mdl_state.specs.Attempt.{tried};
 ghost use Rattle.mdl_cpu.specs.Addresses.{offset_of, IsAddress, HasAddress};
-ghost use Rattle.mdl_step.specs.Operands.{size_of, Made, memory_read, memory_write, memory_change};
-ghost use Rattle.mdl_step.specs.Forms.{IsOf};
+ghost use Rattle.mdl_effect.specs.Operands.{size_of, Made, memory_read, memory_write, memory_change};
+ghost use Rattle.mdl_effect.specs.Forms.{IsOf};
 ghost use Rattle.operands.specs.Whole.{whole};
 ghost use Rattle.operands.specs.Memory.{changed, is_memory};
 
@@ -28,7 +28,7 @@ pub fn offset(regs: &Regs, mem: &Mem) -> u32
 }
 
 /// The number of a memory operand.
-#[tactic(auto, unfolding(mdl_step::specs::Operands::memory_read))]
+#[tactic(auto, unfolding(mdl_effect::specs::Operands::memory_read))]
 pub fn read<L: Linear>(regs: &Regs, lin: &mut L, operand: &Operand) -> Result<u32, Fault>
     requires { HasAddress operand.now }
     ensures run { (flags : ℕ) → (outcome result, L.seen lin.new)
@@ -45,7 +45,7 @@ pub fn read<L: Linear>(regs: &Regs, lin: &mut L, operand: &Operand) -> Result<u3
 }
 
 /// The same where the operand has this size.
-#[tactic(auto, unfolding(mdl_step::specs::Operands::memory_read))]
+#[tactic(auto, unfolding(mdl_effect::specs::Operands::memory_read))]
 pub fn read_sized<L: Linear>(
     regs: &Regs,
     lin: &mut L,
@@ -67,7 +67,7 @@ pub fn read_sized<L: Linear>(
 }
 
 /// A number put into a memory operand.
-#[tactic(auto, unfolding(mdl_step::specs::Operands::memory_write))]
+#[tactic(auto, unfolding(mdl_effect::specs::Operands::memory_write))]
 pub fn write<L: Linear>(
     regs: &Regs,
     lin: &mut L,
@@ -92,7 +92,7 @@ pub fn write<L: Linear>(
 }
 
 /// The place of a memory operand that is read and then written.
-#[tactic(auto, unfolding(mdl_step::specs::Operands::memory_change))]
+#[tactic(auto, unfolding(mdl_effect::specs::Operands::memory_change))]
 pub fn open<L: Linear>(
     regs: &Regs,
     lin: &mut L,

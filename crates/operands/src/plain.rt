@@ -2,8 +2,8 @@
 
 ghost use Rattle.std.specs.Prelude.{◌≡◌, ◌<◌, ◌≤◌, ℕ};
 ghost use Rattle.mdl_state.specs.Bytes.{bound_of, bytes_of};
-ghost use Rattle.mdl_step.specs.Operands.{value_of, with_value, size_of, is_plain, is_nothing};
-ghost use Rattle.mdl_step.specs.Forms.{IsOf, IsWithin};
+ghost use Rattle.mdl_effect.specs.Operands.{value_of, with_value, size_of, is_plain, is_nothing};
+ghost use Rattle.mdl_effect.specs.Forms.{IsOf, IsWithin};
 ghost use Rattle.operands.specs.Whole.{whole, KeepsOther};
 
 use crate::registers::{reg, set_reg};

@@ -6,7 +6,7 @@ ghost use Rattle.mdl_state.specs.Serving.{by_pick};
 ghost use Rattle.mdl_state.specs.Accesses.{Keeps, HasRoom};
 ghost use Rattle.mdl_state.specs.Attempt.{tried};
 ghost use Rattle.mdl_cpu.specs.Loads.{answered};
-ghost use Rattle.mdl_step.specs.Stack.{stack_size, stack_top, with_top, above_top, below_top, push_plan, pop_plan};
+ghost use Rattle.mdl_cpu.specs.Stack.{stack_size, stack_top, with_top, above_top, below_top, push_plan, pop_plan};
 ghost use Rattle.operands.specs.Whole.{whole, KeepsOther};
 ghost use Rattle.operands.specs.Stack.{popped};
 
@@ -66,7 +66,7 @@ pub fn set_top(regs: &mut Regs, top: u32)
 }
 
 /// PUSH of a number. The stack pointer moves after the last check.
-#[tactic(auto, using(mdl_state::specs::Rules::attempts), unfolding(mdl_step::specs::Stack::push_plan))]
+#[tactic(auto, using(mdl_state::specs::Rules::attempts), unfolding(mdl_cpu::specs::Stack::push_plan))]
 pub fn push<L: Linear>(regs: &mut Regs, lin: &mut L, size: Size, value: u32) -> Result<(), Fault>
     requires bound { value < bound_of size }
     requires room { HasRoom (L.seen lin.old) (bytes_of size) }
@@ -85,7 +85,7 @@ pub fn push<L: Linear>(regs: &mut Regs, lin: &mut L, size: Size, value: u32) -> 
 }
 
 /// POP of a number.
-#[tactic(auto, using(mdl_state::specs::Rules::attempts), unfolding(mdl_step::specs::Stack::pop_plan))]
+#[tactic(auto, using(mdl_state::specs::Rules::attempts), unfolding(mdl_cpu::specs::Stack::pop_plan))]
 pub fn pop<L: Linear>(regs: &mut Regs, lin: &mut L, size: Size) -> Result<u32, Fault>
     ensures run { (flags : ℕ) → (popped result (whole regs.new flags), L.seen lin.new)
         ≡ tried (by_pick L.pick) 0 (pop_plan (whole regs.old flags) size) (L.seen lin.old) }

@@ -1,8 +1,9 @@
 -- Which crate runs an instruction.
 use Rattle.std.specs.Prelude.{IsTrue, Bool, true, false}
 use Rattle.mdl_insn.specs.declared.instruction.Insn.{Insn}
-use Rattle.mdl_step.specs.DataEffects.{runs_data}
-use Rattle.mdl_step.specs.Effects.{runs_flow, runs_string}
+use Rattle.mdl_effect.specs.DataEffects.{runs_data}
+use Rattle.mdl_effect.specs.FlowEffects.{runs_flow}
+use Rattle.mdl_effect.specs.StringEffects.{runs_string}
 use Rattle.step_lines.specs.declared.steps.Family.{Family}
 use Rattle.step_lines.specs.declared.steps.Family.TheVariants.{Data, Flow, Strings}
 

@@ -1,7 +1,7 @@
 -- DF is no status flag.
 use Rattle.std.proofs.Common.{◌≡◌, ℕ, arith, refl}
 use Rattle.mdl_num.specs.Flags.{is_set}
-use Rattle.mdl_step.specs.Operands.{DF}
+use Rattle.mdl_effect.specs.Operands.{DF}
 use Rattle.lazy_flags.specs.Keeper.{with_status}
 use Rattle.operands.proofs.Statuses.{other_bit}
 

@@ -2,8 +2,8 @@
 
 ghost use Rattle.std.specs.Prelude.{◌≡◌, ◌<◌, ℕ};
 ghost use Rattle.mdl_state.specs.Bytes.{bound_of};
-ghost use Rattle.mdl_step.specs.Operands.{address_size};
-ghost use Rattle.mdl_step.specs.StringEffects.{source_index, destination_index, stepped, past_source, past_destination, past_both};
+ghost use Rattle.mdl_effect.specs.Operands.{address_size};
+ghost use Rattle.mdl_effect.specs.StringEffects.{source_index, destination_index, stepped, past_source, past_destination, past_both};
 ghost use Rattle.operands.specs.Whole.{whole, KeepsOther};
 
 use mdl_insn::Insn;

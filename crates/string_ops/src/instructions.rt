@@ -4,7 +4,8 @@ ghost use Rattle.std.specs.Prelude.{◌≡◌, ℕ, IsTrue, OnErr};
 ghost use Rattle.mdl_state.specs.Serving.{by_pick};
 ghost use Rattle.mdl_state.specs.Accesses.{Keeps, HasRoom};
 ghost use Rattle.mdl_state.specs.Attempt.{tried};
-ghost use Rattle.mdl_step.specs.Effects.{runs_string, effect};
+ghost use Rattle.mdl_effect.specs.StringEffects.{runs_string, string_plan};
+ghost use Rattle.mdl_cpu.specs.Steady.{Steady};
 ghost use Rattle.operands.specs.Whole.{whole, ran};
 
 use crate::repeats::repeat;
@@ -30,7 +31,7 @@ pub fn runs_string(op: Op) -> bool
 /// `Next::Again` asks for the next iteration of a repeat, with EIP still at the instruction. The
 /// status flags of EFLAGS are those of `flags`. A fault leaves what was held before it to be
 /// dropped.
-#[tactic(auto, using(mdl_state::specs::Rules::attempts, mdl_step::proofs::EffectLaws::effects), unfolding(mdl_step::specs::StringEffects::string_plan))]
+#[tactic(auto, using(mdl_state::specs::Rules::attempts), unfolding(mdl_effect::specs::StringEffects::string_plan))]
 pub fn run<L: Linear>(
     regs: &mut Regs,
     flags: &mut Flags,
@@ -39,9 +40,10 @@ pub fn run<L: Linear>(
 ) -> Result<Next, Fault>
     requires runs { IsTrue (runs_string insn.now.op) }
     requires room { HasRoom (L.seen lin.old) 4 }
-    ensures run { (back : ℕ) → (ran result (whole regs.new flags.new), L.seen lin.new)
-        ≡ tried (by_pick L.pick) 0 (effect insn.now (whole regs.old flags.old) back (whole regs.new flags.new).eflags) (L.seen lin.old) }
+    ensures run { (ran result (whole regs.new flags.new), L.seen lin.new)
+        ≡ tried (by_pick L.pick) 0 (string_plan insn.now (whole regs.old flags.old) (whole regs.new flags.new).eflags) (L.seen lin.old) }
     ensures unchanged { OnErr result ((regs.new ≡ regs.old) × (flags.new ≡ flags.old)) }
+    ensures steady { Steady (whole regs.old flags.old) (whole regs.new flags.new) }
     ensures keeps { Keeps (L.seen lin.old) (L.seen lin.new) }
 {
     match insn.rep {

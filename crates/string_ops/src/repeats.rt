@@ -6,10 +6,10 @@ ghost use Rattle.mdl_state.specs.Serving.{by_pick};
 ghost use Rattle.mdl_state.specs.Accesses.{Keeps, HasRoom};
 ghost use Rattle.mdl_state.specs.Attempt.{tried};
 ghost use Rattle.mdl_insn.specs.declared.instruction.Rep.TheVariants.{Equal};
-ghost use Rattle.mdl_step.specs.Operands.{address_size};
-ghost use Rattle.mdl_step.specs.FlowEffects.{count_of, counted_down};
-ghost use Rattle.mdl_step.specs.StringEffects.{compares, is_wanted, goes_on, repeating};
-ghost use Rattle.mdl_step.specs.Effects.{runs_string};
+ghost use Rattle.mdl_effect.specs.Operands.{address_size};
+ghost use Rattle.mdl_effect.specs.Operands.{count_of, counted_down};
+ghost use Rattle.mdl_effect.specs.StringEffects.{compares, is_wanted, goes_on, repeating};
+ghost use Rattle.mdl_effect.specs.StringEffects.{runs_string};
 ghost use Rattle.operands.specs.Whole.{whole, ran, KeepsOther};
 
 use crate::strings::iterate;

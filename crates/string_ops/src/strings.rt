@@ -8,9 +8,9 @@ ghost use Rattle.mdl_state.specs.Serving.{by_pick, outcome};
 ghost use Rattle.mdl_state.specs.Accesses.{Keeps, HasRoom};
 ghost use Rattle.mdl_state.specs.Attempt.{tried};
 ghost use Rattle.mdl_cpu.specs.Loads.{answered};
-ghost use Rattle.mdl_step.specs.StringEffects.{read_source, read_destination, write_destination, compared};
-ghost use Rattle.mdl_step.specs.StringEffects.{move_string_plan, compare_strings_plan, store_string_plan, load_string_plan, scan_string_plan, iterate_plan};
-ghost use Rattle.mdl_step.specs.Effects.{runs_string};
+ghost use Rattle.mdl_effect.specs.StringEffects.{read_source, read_destination, write_destination, compared};
+ghost use Rattle.mdl_effect.specs.StringEffects.{move_string_plan, compare_strings_plan, store_string_plan, load_string_plan, scan_string_plan, iterate_plan};
+ghost use Rattle.mdl_effect.specs.StringEffects.{runs_string};
 ghost use Rattle.operands.specs.Whole.{whole, KeepsOther};
 
 use crate::indexes::{destination_index, pass_both, pass_destination, pass_source, source_index};
@@ -73,7 +73,7 @@ fn compare(flags: &mut Flags, size: Size, a: u32, b: u32)
 }
 
 /// MOVS.
-#[tactic(auto, using(mdl_state::specs::Rules::attempts), unfolding(mdl_step::specs::StringEffects::move_string_plan))]
+#[tactic(auto, using(mdl_state::specs::Rules::attempts), unfolding(mdl_effect::specs::StringEffects::move_string_plan))]
 fn move_string<L: Linear>(regs: &mut Regs, lin: &mut L, insn: &Insn) -> Result<(), Fault>
     requires room { HasRoom (L.seen lin.old) 4 }
     ensures run { (flags : ℕ) → (answered result (whole regs.new flags), L.seen lin.new)
@@ -89,7 +89,7 @@ fn move_string<L: Linear>(regs: &mut Regs, lin: &mut L, insn: &Insn) -> Result<(
 }
 
 /// CMPS: the flags of the source less the destination.
-#[tactic(auto, using(mdl_state::specs::Rules::attempts), unfolding(mdl_step::specs::StringEffects::compare_strings_plan))]
+#[tactic(auto, using(mdl_state::specs::Rules::attempts), unfolding(mdl_effect::specs::StringEffects::compare_strings_plan))]
 fn compare_strings<L: Linear>(
     regs: &mut Regs,
     flags: &mut Flags,
@@ -110,7 +110,7 @@ fn compare_strings<L: Linear>(
 }
 
 /// STOS.
-#[tactic(auto, using(mdl_state::specs::Rules::attempts), unfolding(mdl_step::specs::StringEffects::store_string_plan))]
+#[tactic(auto, using(mdl_state::specs::Rules::attempts), unfolding(mdl_effect::specs::StringEffects::store_string_plan))]
 fn store_string<L: Linear>(regs: &mut Regs, lin: &mut L, insn: &Insn) -> Result<(), Fault>
     requires room { HasRoom (L.seen lin.old) 4 }
     ensures run { (flags : ℕ) → (answered result (whole regs.new flags), L.seen lin.new)
@@ -126,7 +126,7 @@ fn store_string<L: Linear>(regs: &mut Regs, lin: &mut L, insn: &Insn) -> Result<
 }
 
 /// LODS.
-#[tactic(auto, using(mdl_state::specs::Rules::attempts), unfolding(mdl_step::specs::StringEffects::load_string_plan))]
+#[tactic(auto, using(mdl_state::specs::Rules::attempts), unfolding(mdl_effect::specs::StringEffects::load_string_plan))]
 fn load_string<L: Linear>(regs: &mut Regs, lin: &mut L, insn: &Insn) -> Result<(), Fault>
     ensures run { (flags : ℕ) → (answered result (whole regs.new flags), L.seen lin.new)
         ≡ tried (by_pick L.pick) 0 (load_string_plan insn.now (whole regs.old flags)) (L.seen lin.old) }
@@ -141,7 +141,7 @@ fn load_string<L: Linear>(regs: &mut Regs, lin: &mut L, insn: &Insn) -> Result<(
 }
 
 /// SCAS: the flags of the accumulator less the destination.
-#[tactic(auto, using(mdl_state::specs::Rules::attempts), unfolding(mdl_step::specs::StringEffects::scan_string_plan))]
+#[tactic(auto, using(mdl_state::specs::Rules::attempts), unfolding(mdl_effect::specs::StringEffects::scan_string_plan))]
 fn scan_string<L: Linear>(
     regs: &mut Regs,
     flags: &mut Flags,
@@ -161,7 +161,7 @@ fn scan_string<L: Linear>(
 }
 
 /// One iteration of the instruction by its mnemonic.
-#[tactic(auto, unfolding(mdl_step::specs::StringEffects::iterate_plan))]
+#[tactic(auto, unfolding(mdl_effect::specs::StringEffects::iterate_plan))]
 pub(crate) fn iterate<L: Linear>(
     regs: &mut Regs,
     flags: &mut Flags,

@@ -9,6 +9,8 @@ use Rattle.mdl_state.specs.declared.Access.TheVariants.{Read, Write}
 use Rattle.mdl_state.specs.declared.Place.{Place}
 use Rattle.mdl_state.specs.State.{Mem}
 use Rattle.mdl_state.specs.Bytes.{bytes_of}
+use Rattle.mdl_state.specs.declared.Watch.{Watch}
+use Rattle.mdl_state.specs.Watches.{hits_after, noted}
 use Rattle.mdl_state.specs.Serving.{Outcome, Serve, Passed, on}
 use Rattle.mdl_state.specs.Accesses.{translated, got, got_from, held_at, read_at, written_at, bytes_here}
 use Rattle.mem_iface.specs.Numbers.{loaded}
@@ -27,19 +29,23 @@ first true x y h = cc
 unpaged : Mem → ℕ → Size → Place
 unpaged m lin size = record { first = lin; second = (lin + bytes_here lin size) % 2 ^ 32; cut = bytes_here lin size }
 
-translated_off : (serve : Serve) (m : Mem) (lin : ℕ) (size : Size) (access : Access) → m.paging ≡ false → translated serve m lin size access ≡ (Passed (unpaged m lin size), m)
-unfolding translated unpaged
-translated_off serve m lin size access off = first m.paging _ _ off
+-- where nothing is watched, nothing is noted
+pub noted_none : (m : Mem) (lin : ℕ) (size : Size) (access : Access) → m.watch ≡ [] → noted m lin size access ≡ m
+noted_none m lin size access none = ap (λ (ws : List Watch). record m { hits = hits_after ws lin size access m.hits }) none
 
-pub direct_read : (serve : Serve) (m : Mem) (lin : ℕ) (size : Size) (who : Who) (value : ℕ) → m.paging ≡ false → m.held ≡ [] → lin % 0x1000 + 4 ≤ 0x1000 → value ≡ loaded m.physical lin size → (Passed value, m) ≡ read_at serve m lin size who
+translated_off : (serve : Serve) (m : Mem) (lin : ℕ) (size : Size) (access : Access) → m.paging ≡ false → m.watch ≡ [] → translated serve m lin size access ≡ (Passed (unpaged m lin size), m)
+unfolding translated unpaged
+translated_off serve m lin size access off none = first m.paging _ _ off ∙ ap (λ (n : Mem). (Passed (unpaged m lin size), n)) (noted_none m lin size access none)
+
+pub direct_read : (serve : Serve) (m : Mem) (lin : ℕ) (size : Size) (who : Who) (value : ℕ) → m.paging ≡ false → m.watch ≡ [] → m.held ≡ [] → lin % 0x1000 + 4 ≤ 0x1000 → value ≡ loaded m.physical lin size → (Passed value, m) ≡ read_at serve m lin size who
 unfolding read_at unpaged
-direct_read serve m lin size who value off none page v =
+direct_read serve m lin size who value off clear none page v =
     ap (λ (n : ℕ). (Passed n, m)) (v ∙ sym (whole_got m.physical (unpaged m lin size) size (here lin size page))
     ∙ ap (λ (held : List (ℕ × ℕ)). got_from m.physical held (unpaged m lin size) size) (sym none))
-    ∙ sym (ap (λ (w : Outcome Place × Mem). on w (λ place n. (Passed (got n place size), n))) (translated_off serve m lin size (Read who) off))
+    ∙ sym (ap (λ (w : Outcome Place × Mem). on w (λ place n. (Passed (got n place size), n))) (translated_off serve m lin size (Read who) off clear))
 
-pub direct_write : (serve : Serve) (m : Mem) (lin : ℕ) (size : Size) (value : ℕ) (who : Who) (place : Place) → m.paging ≡ false → place ≡ record { first = lin; second = (lin + bytes_here lin size) % 2 ^ 32; cut = bytes_here lin size } → (Passed tt, held_at m place size value) ≡ written_at serve m lin size value who
+pub direct_write : (serve : Serve) (m : Mem) (lin : ℕ) (size : Size) (value : ℕ) (who : Who) (place : Place) → m.paging ≡ false → m.watch ≡ [] → place ≡ record { first = lin; second = (lin + bytes_here lin size) % 2 ^ 32; cut = bytes_here lin size } → (Passed tt, held_at m place size value) ≡ written_at serve m lin size value who
 unfolding written_at unpaged
-direct_write serve m lin size value who place off e =
+direct_write serve m lin size value who place off clear e =
     ap (λ (p : Place). (Passed tt, held_at m p size value)) e
-    ∙ sym (ap (λ (w : Outcome Place × Mem). on w (λ place n. (Passed tt, held_at n place size value))) (translated_off serve m lin size (Write who) off))
+    ∙ sym (ap (λ (w : Outcome Place × Mem). on w (λ place n. (Passed tt, held_at n place size value))) (translated_off serve m lin size (Write who) off clear))

@@ -27,7 +27,7 @@ impl Model for Tlb {
 
     ghost coded = { mem_code };
 
-    ghost view = { λ s. record { physical = s.phys; paging = s.paging; cr3 = s.cr3; cache = empty; held = s.held; walks = s.walks; served = [] } };
+    ghost view = { λ s. record { physical = s.phys; paging = s.paging; cr3 = s.cr3; cache = empty; held = s.held; walks = s.walks; served = []; watch = []; hits = 0 } };
 }
 
 impl Tlb {

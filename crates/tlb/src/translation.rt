@@ -1,6 +1,6 @@
 //! Where an access lies.
 
-ghost use Rattle.std.specs.Prelude.{◌≡◌, ◌+◌, ◌≤◌, ◌^◌, ◌%◌, IfOk, true};
+ghost use Rattle.std.specs.Prelude.{◌≡◌, ◌+◌, ◌≤◌, ◌^◌, ◌%◌, IfOk, true, []};
 ghost use Rattle.mdl_state.specs.Serving.{by_pick, outcome};
 ghost use Rattle.mdl_state.specs.Accesses.{translated, bytes_here, Keeps, IsPlace};
 ghost use Rattle.mdl_state.specs.Policy.{plain_item};
@@ -40,6 +40,7 @@ impl Tlb {
         ensures frame { IfOk result (λ entry. (entry.frame % 0x1000 ≡ 0) × (entry.frame + 0x1000 ≤ 2 ^ 32)) }
         ensures keeps { Keeps self.old self.new }
         ensures held { self.new.held ≡ self.old.held }
+        ensures unwatched { self.new.watch ≡ [] }
     {
         let entry = walk(&mut self.phys, self.cr3, lin, access);
         self.walks = self.walks.saturating_add(1);
@@ -48,7 +49,7 @@ impl Tlb {
 
     /// The place of an access with paging on.
     #[inline(never)]
-    #[tactic(auto, unfolding(mdl_state::specs::Accesses::translated))]
+    #[tactic(auto, using(crate::proofs::Direct::noted_none), unfolding(mdl_state::specs::Accesses::translated))]
     pub(crate) fn translate_paged(
         &mut self,
         lin: u32,

@@ -1,7 +1,7 @@
-use Rattle.std.proofs.Common.{◌≡◌, sym, ap, ◌∙◌}
+use Rattle.std.proofs.Common.{sym, ap, ◌∙◌}
 use Rattle.mdl_state.specs.Serving.{by_pick}
 use Rattle.mdl_state.specs.Attempt.{Plan, tried}
-use Rattle.mdl_step.specs.Operands.{After}
+use Rattle.mdl_effect.specs.Operands.{After}
 use Rattle.mdl_step.proofs.EffectLaws.{effect_far, effect_halt}
 use Rattle.operands.specs.Whole.{whole}
 use Rattle.cpu_core.proofs.Settled.{built_data, built_flow, built_string, built_far, built_halt, not_built}

@@ -1,5 +1,5 @@
 use Rattle.mdl_cpu.proofs.AddressLaws.{spelt_addresses}
-use Rattle.mdl_step.proofs.FormLaws.{spelt_formed}
+use Rattle.mdl_effect.proofs.FormLaws.{spelt_formed}
 use Rattle.exec_data.proofs.PlaceLaws.{spelt_placed}
 use Rattle.exec_data.proofs.instructions.run.Goals as goal
 

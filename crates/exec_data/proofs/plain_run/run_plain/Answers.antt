@@ -1,4 +1,4 @@
-use Rattle.mdl_step.proofs.FormLaws.{spelt_formed, plain_runs}
+use Rattle.mdl_effect.proofs.FormLaws.{spelt_formed, plain_runs}
 use Rattle.exec_data.proofs.plain_run.run_plain.Goals as goal
 
 pub run_formed-requires-clause-formed : goal.run_formed-requires-clause-formed

@@ -1,5 +1,5 @@
 use Rattle.mdl_cpu.proofs.AddressLaws.{spelt_addresses}
-use Rattle.mdl_step.proofs.FormLaws.{spelt_flow}
+use Rattle.mdl_effect.proofs.FormLaws.{spelt_flow}
 use Rattle.exec_flow.proofs.NearLaws.{spelt_near}
 use Rattle.exec_flow.proofs.instructions.run.Goals as goal
 

@@ -1,4 +1,4 @@
-use Rattle.std.proofs.Common.{◌≡◌, ◌^◌, ◌+◌, ◌%◌, sym, ap, subst, ◌∙◌}
+use Rattle.std.proofs.Common.{◌^◌, ◌+◌, ◌%◌, sym, ap, subst, ◌∙◌}
 use Rattle.mdl_state.specs.State.{Mem, State}
 use Rattle.mdl_step.specs.Boundary.{boundary}
 use Rattle.mdl_step.specs.Step.{IsUnbuilt}

@@ -16,8 +16,18 @@ use Rattle.mdl_insn.specs.declared.instruction.Rep.{Rep}
 use Rattle.mdl_insn.specs.declared.instruction.Rep.TheVariants as rep
 use Rattle.mdl_insn.specs.declared.mnemonics.Op.{Op}
 use Rattle.mdl_insn.specs.declared.mnemonics.Op.TheVariants as ops
-use Rattle.mdl_step.specs.Operands.{After, follow, no_such, address_size, DF, load_from, store_to, with_flags}
-use Rattle.mdl_step.specs.FlowEffects.{count_of, counted_down}
+use Rattle.mdl_effect.specs.Operands.{After, NoPort, follow, no_such, count_of, counted_down, address_size, DF, with_flags}
+use Rattle.mdl_cpu.specs.Access.{load_from, store_to}
+
+
+-- the mnemonics of strings
+abbrev pub runs_string : Op → Bool
+runs_string ops.Movs = true
+runs_string ops.Cmps = true
+runs_string ops.Stos = true
+runs_string ops.Lods = true
+runs_string ops.Scas = true
+runs_string _ = false
 
 -- ---- indexes
 
@@ -104,7 +114,7 @@ goes_on insn r = not (count_of r insn.wide == 0) && (not (compares insn.op) || i
 
 -- an iteration is counted, and EIP stays at the instruction while it goes on
 abbrev pub counted_after : Insn → Regs → After
-counted_after insn r = record { regs = counted_down r insn.wide; next = if goes_on insn (counted_down r insn.wide) then Again else Follow }
+counted_after insn r = record { regs = counted_down r insn.wide; next = if goes_on insn (counted_down r insn.wide) then Again else Follow; access = NoPort }
 
 -- one iteration, of a repeated instruction only where the count is not 0
 abbrev pub repeating : Rep → Insn → Regs → ℕ → Plan After

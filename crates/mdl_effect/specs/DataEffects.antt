@@ -9,11 +9,11 @@ use Rattle.mdl_insn.specs.declared.instruction.Operand.{Operand}
 use Rattle.mdl_insn.specs.declared.instruction.Operand.TheVariants.{Sreg, Creg, Dreg}
 use Rattle.mdl_insn.specs.declared.mnemonics.Op.{Op}
 use Rattle.mdl_insn.specs.declared.mnemonics.Op.TheVariants as ops
-use Rattle.mdl_step.specs.Operands.{After, no_such}
-use Rattle.mdl_step.specs.Arithmetic.{binary_plan, compare_plan, unary_plan, multiply_plan, signed_multiply_plan, divide_plan, signed_divide_plan, adjust_plan, digits_plan, from_digits_plan}
-use Rattle.mdl_step.specs.Shifts.{shift_plan, double_shift_plan, bit_test_plan, bit_change_plan, scan_plan}
-use Rattle.mdl_step.specs.Conditions.{set_plan}
-use Rattle.mdl_step.specs.Moves.{move_plan, sign_extend_plan, mov_plan, lea_plan, xlat_plan, pointer_plan, bound_plan, pop_segment_plan, exchange_plan, widen_plan, sign_plan}
+use Rattle.mdl_effect.specs.Operands.{After, no_such, is_plain}
+use Rattle.mdl_effect.specs.Arithmetic.{binary_plan, compare_plan, unary_plan, multiply_plan, signed_multiply_plan, divide_plan, signed_divide_plan, adjust_plan, digits_plan, from_digits_plan}
+use Rattle.mdl_effect.specs.Shifts.{shift_plan, double_shift_plan, bit_test_plan, bit_change_plan, scan_plan}
+use Rattle.mdl_effect.specs.Conditions.{set_plan}
+use Rattle.mdl_effect.specs.Moves.{move_plan, sign_extend_plan, mov_plan, lea_plan, xlat_plan, pointer_plan, bound_plan, pop_segment_plan, exchange_plan, widen_plan, sign_plan}
 
 -- the mnemonics that are built here
 abbrev pub is_data : Op → Bool
@@ -149,3 +149,7 @@ by_mnemonic _ insn r free = no_such
 
 unfoldable pub data_effect : Insn → Regs → ℕ → Plan After
 data_effect insn r free = by_mnemonic insn.op insn r free
+
+-- a data instruction of which each operand is a general register or a number
+abbrev pub is_plain_data : Insn → Bool
+is_plain_data insn = is_data insn.op && is_plain insn.a && is_plain insn.b && is_plain insn.c

@@ -25,11 +25,12 @@ use Rattle.mdl_insn.specs.Operands.{operand, e_operand, own_len, Place, place}
 use Rattle.mdl_insn.specs.Prefixes.{has, operand_size_prefix, setting}
 use Rattle.mdl_insn.specs.Spelling.{size_of, insn_of, opcode_last, SpeltRow, Spelt}
 use Rattle.mdl_insn.proofs.PrefixEnds.{fit_back}
-use Rattle.mdl_step.specs.DataEffects.{is_data, is_address, is_special, is_segment_pop, runs_data}
-use Rattle.mdl_step.specs.Effects.{is_plain_data, is_flow, runs_flow}
-use Rattle.mdl_step.specs.Forms.{IsOf, IsWithin, IsMove, IsFormedAs, IsFormed}
-use Rattle.mdl_step.specs.Operands.{is_plain, is_segment}
-use Rattle.mdl_step.proofs.RowTests.{row_tested}
+use Rattle.mdl_effect.specs.DataEffects.{is_data, is_address, is_special, is_segment_pop, runs_data}
+use Rattle.mdl_effect.specs.DataEffects.{is_plain_data}
+use Rattle.mdl_effect.specs.FlowEffects.{is_flow, runs_flow}
+use Rattle.mdl_effect.specs.Forms.{IsOf, IsWithin, IsMove, IsFormedAs, IsFormed}
+use Rattle.mdl_effect.specs.Operands.{is_plain, is_segment}
+use Rattle.mdl_effect.proofs.RowTests.{row_tested}
 
 -- ---- the test of a row
 

@@ -19,7 +19,7 @@ use Rattle.mdl_num.specs.Decimal.{al_of, daa_value, daa_status, das_value, das_s
 use Rattle.mdl_insn.specs.declared.instruction.Insn.{Insn}
 use Rattle.mdl_insn.specs.declared.mnemonics.Op.{Op}
 use Rattle.mdl_insn.specs.declared.mnemonics.Op.TheVariants as ops
-use Rattle.mdl_step.specs.Operands.{After, Made, follow, is_nothing, with_flags, reading, updating}
+use Rattle.mdl_effect.specs.Operands.{After, Made, follow, is_nothing, with_flags, reading, updating}
 
 -- a number, and what its making does with the flags
 pub record Answer : Type 0 where

@@ -1,16 +1,18 @@
 -- What the instructions of the stack do. Manual, chapter 17, under PUSH, PUSHA, POP, POPA, ENTER and LEAVE.
-use Rattle.std.specs.Prelude.{ℕ, zero, suc, ◌+◌, ◌-◌, ◌*◌, ◌%◌, ◌==◌, if◌then◌else◌, List, [], ◌∷◌}
+use Rattle.std.specs.Prelude.{ℕ, zero, suc, ◌+◌, ◌-◌, ◌*◌, ◌%◌, ◌==◌, true, if◌then◌else◌, List, [], ◌∷◌}
 use Rattle.mdl_state.specs.declared.Size.{Size}
+use Rattle.mdl_state.specs.declared.Size.TheVariants.{B1}
 use Rattle.mdl_state.specs.declared.Seg.TheVariants.{Ss}
 use Rattle.mdl_state.specs.declared.Regs.{Regs}
 use Rattle.mdl_state.specs.Bytes.{bytes_of, bound_of}
 use Rattle.mdl_state.specs.Registers.{reg_of, with_reg, seg_of}
-use Rattle.mdl_state.specs.Attempt.{Plan, Done, then_plan}
+use Rattle.mdl_state.specs.Attempt.{Plan, Done, then_plan, checked}
 use Rattle.mdl_insn.specs.declared.instruction.Insn.{Insn}
 use Rattle.mdl_insn.specs.declared.instruction.Operand.{Operand}
 use Rattle.mdl_insn.specs.declared.instruction.Operand.TheVariants.{Sreg}
-use Rattle.mdl_step.specs.Operands.{After, follow, load_from, value_of, reading, writing}
-use Rattle.mdl_step.specs.Stack.{stack_size, with_top, below_top, push_plan, pop_plan}
+use Rattle.mdl_effect.specs.Operands.{After, follow, value_of, reading, writing}
+use Rattle.mdl_cpu.specs.Access.{legal, load_from}
+use Rattle.mdl_cpu.specs.Stack.{stack_size, stack_top, with_top, below_top, push_plan, pop_plan}
 
 -- ---- PUSH and POP
 
@@ -74,11 +76,16 @@ push_frames old r size frame (suc between) = then_plan (copy_frames old r size 1
 abbrev pub framed : Regs → Size → ℕ → ℕ → Regs
 framed r size frame bytes = with_reg (with_top r (below_top r bytes)) 5 size frame
 
--- ENTER: the frame pointer is pushed, and becomes the stack pointer that is then; the level is taken modulo 32
+-- the byte at the new top must be one that the stack segment allows to be written
+abbrev pub allowing_top : Regs → Plan After
+allowing_top r = checked (legal r Ss (stack_top r) B1 true) (λ _. follow r)
+
+-- ENTER: the frame pointer is pushed, and becomes the stack pointer that is then; the level is taken modulo 32.
+-- The new stack pointer is tested last.
 unfoldable pub enter_plan : Insn → Regs → Plan After
 enter_plan insn r = then_plan (push_plan r insn.size (reg_of r 5 insn.size)) (λ q.
     then_plan (push_frames r q insn.size (reg_of q 4 insn.size) (value_of r insn.b % 32)) (λ s.
-    follow (framed s insn.size (reg_of q 4 insn.size) (value_of r insn.a))))
+    allowing_top (framed s insn.size (reg_of q 4 insn.size) (value_of r insn.a))))
 
 -- LEAVE: the stack pointer is set to the frame pointer, which is then popped
 unfoldable pub leave_plan : Insn → Regs → Plan After

@@ -8,7 +8,7 @@ use Rattle.mdl_state.specs.Bytes.{bytes_of, bound_of}
 use Rattle.mdl_state.specs.Registers.{reg_of, with_reg, seg_of}
 use Rattle.mdl_state.specs.Attempt.{Plan, Done, then_plan}
 use Rattle.mdl_cpu.specs.Segments.{is_protected, is_big}
-use Rattle.mdl_step.specs.Operands.{load_from, store_to}
+use Rattle.mdl_cpu.specs.Access.{load_from, store_to}
 
 -- ESP or SP
 abbrev pub stack_size : Regs → Size

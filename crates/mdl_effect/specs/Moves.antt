@@ -17,8 +17,9 @@ use Rattle.mdl_insn.specs.declared.instruction.Operand.{Operand}
 use Rattle.mdl_insn.specs.declared.instruction.Operand.TheVariants.{Gpr, Sreg, At}
 use Rattle.mdl_cpu.specs.Addresses.{part_of, offset_bound, offset_of}
 use Rattle.mdl_cpu.specs.Loads.{load_plan}
-use Rattle.mdl_step.specs.Operands.{After, follow, no_such, load_from, memory_write, is_plain, is_nothing, size_of, value_of, with_value, reading, writing, updating}
-use Rattle.mdl_step.specs.Stack.{pop_plan}
+use Rattle.mdl_effect.specs.Operands.{After, NoPort, follow, no_such, memory_write, is_plain, is_nothing, size_of, value_of, with_value, reading, writing, updating}
+use Rattle.mdl_cpu.specs.Access.{load_from}
+use Rattle.mdl_cpu.specs.Stack.{pop_plan}
 
 -- ---- moves and extensions
 
@@ -39,7 +40,7 @@ after_load _ = Follow
 
 -- MOV to a segment register
 unfoldable pub load_segment_plan : Seg → Insn → Regs → Plan After
-load_segment_plan seg insn r = reading r insn.b (λ sel. then_plan (load_plan r seg sel) (λ q. Done (record { regs = q; next = after_load seg })))
+load_segment_plan seg insn r = reading r insn.b (λ sel. then_plan (load_plan r seg sel) (λ q. Done (record { regs = q; next = after_load seg; access = NoPort })))
 
 -- a register set in the size of the instruction
 abbrev pub with_sized : Regs → Operand → Size → ℕ → Regs
@@ -105,7 +106,7 @@ bound_plan insn r = bound_within insn.b insn r
 -- POP of a segment register reads the operand size, of which the low word is the selector
 abbrev pub pop_of : Operand → Insn → Regs → Plan After
 pop_of (Sreg seg) insn r = then_plan (pop_plan r insn.size) (λ popped.
-    then_plan (load_plan popped.1 seg (popped.0 % 2 ^ 16)) (λ q. Done (record { regs = q; next = after_load seg })))
+    then_plan (load_plan popped.1 seg (popped.0 % 2 ^ 16)) (λ q. Done (record { regs = q; next = after_load seg; access = NoPort })))
 pop_of _ insn r = no_such
 
 unfoldable pub pop_segment_plan : Insn → Regs → Plan After

@@ -1,5 +1,5 @@
 -- Operands of instructions, as plans read and write them. Manual, chapter 17.
-use Rattle.std.specs.Prelude.{ℕ, Bool, true, false, if◌then◌else◌}
+use Rattle.std.specs.Prelude.{ℕ, ◌+◌, ◌-◌, ◌%◌, Bool, true, false, if◌then◌else◌}
 use Rattle.mdl_state.specs.declared.Size.{Size}
 use Rattle.mdl_state.specs.declared.Size.TheVariants.{B1, B2, B4}
 use Rattle.mdl_state.specs.declared.Seg.{Seg}
@@ -7,24 +7,32 @@ use Rattle.mdl_state.specs.declared.Access.TheVariants.{Write}
 use Rattle.mdl_state.specs.declared.Regs.{Regs}
 use Rattle.mdl_state.specs.declared.Next.{Next}
 use Rattle.mdl_state.specs.declared.Next.TheVariants.{Follow}
+use Rattle.mdl_state.specs.Bytes.{bound_of}
 use Rattle.mdl_state.specs.Registers.{reg_of, with_reg}
-use Rattle.mdl_state.specs.Attempt.{Plan, Done, Fail, Load, Store, Translate, Get, Hold, then_plan, checked}
+use Rattle.mdl_state.specs.Attempt.{Plan, Done, Fail, Translate, Get, Hold, then_plan, checked}
 use Rattle.mdl_num.specs.declared.status.Status.{Status}
 use Rattle.mdl_num.specs.Flags.{flags_after}
 use Rattle.mdl_insn.specs.declared.instruction.Operand.{Operand}
 use Rattle.mdl_insn.specs.declared.instruction.Operand.TheVariants.{Nothing, Gpr, Sreg, Imm, At}
 use Rattle.mdl_cpu.specs.Addresses.{offset_of}
 use Rattle.mdl_cpu.specs.Segments.{who_of}
-use Rattle.mdl_cpu.specs.Access.{legal}
+use Rattle.mdl_cpu.specs.Access.{legal, load_from, store_to}
 
--- what an instruction leaves: the registers, and what follows
+-- the one port that an instruction reads or writes, behind all else that it does
+pub data PortUse : Type 0 where
+  NoPort : PortUse
+  Reads : ℕ → Size → PortUse
+  Writes : ℕ → Size → ℕ → PortUse
+
+-- what an instruction leaves: the registers, what follows, and the port that it uses
 pub record After : Type 0 where
   pub regs : Regs
   pub next : Next
+  pub access : PortUse
 
 -- the instruction goes on behind itself
 abbrev pub follow : Regs → Plan After
-follow r = Done (record { regs = r; next = Follow })
+follow r = Done (record { regs = r; next = Follow; access = NoPort })
 
 -- what stands where no instruction of the mnemonic has such an operand
 abbrev pub no_such : {A : Type 0} → Plan A
@@ -62,6 +70,14 @@ value_of r _ = 0
 abbrev pub address_size : Bool → Size
 address_size wide = if wide then B4 else B2
 
+-- CX or ECX
+abbrev pub count_of : Regs → Bool → ℕ
+count_of r wide = reg_of r 1 (address_size wide)
+
+-- one less, modulo the address size
+abbrev pub counted_down : Regs → Bool → Regs
+counted_down r wide = with_reg r 1 (address_size wide) ((count_of r wide + (bound_of (address_size wide) - 1)) % bound_of (address_size wide))
+
 -- DF, by which strings go downwards
 abbrev pub DF : ℕ
 DF = 10
@@ -76,14 +92,6 @@ abbrev pub with_flags : Regs → Status → ℕ → Regs
 with_flags r status free = record r { eflags = flags_after status r.eflags free }
 
 -- ---- memory
-
--- a number read from a segment
-abbrev pub load_from : Regs → Seg → ℕ → Size → Plan ℕ
-load_from r seg offset size = checked (legal r seg offset size false) (λ at. Load at size (who_of r) (λ value. Done value))
-
--- a number written to a segment
-abbrev pub store_to : Regs → Seg → ℕ → Size → ℕ → Plan (Unit {0})
-store_to r seg offset size value = checked (legal r seg offset size true) (λ at. Store at size value (who_of r) (Done tt))
 
 -- what an operation makes: a number, and the registers beside it
 pub record Made : Type 0 where

@@ -21,8 +21,9 @@ use Rattle.mdl_insn.specs.declared.instruction.Operand.TheVariants.{Gpr, At}
 use Rattle.mdl_cpu.specs.Addresses.{offset_bound, offset_of}
 use Rattle.mdl_insn.specs.declared.mnemonics.Op.{Op}
 use Rattle.mdl_insn.specs.declared.mnemonics.Op.TheVariants as ops
-use Rattle.mdl_step.specs.Operands.{After, Made, follow, no_such, load_from, change_in, is_plain, value_of, with_flags, reading, updating}
-use Rattle.mdl_step.specs.Arithmetic.{Answer, answer, flagged}
+use Rattle.mdl_effect.specs.Operands.{After, Made, follow, no_such, change_in, is_plain, value_of, with_flags, reading, updating}
+use Rattle.mdl_cpu.specs.Access.{load_from}
+use Rattle.mdl_effect.specs.Arithmetic.{Answer, answer, flagged}
 
 abbrev pub shifting : ShiftOp → Size → ℕ → ℕ → Answer
 shifting op size a count = answer (shift_value op size a count) (shift_flags op size a count)

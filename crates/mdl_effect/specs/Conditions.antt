@@ -6,7 +6,7 @@ use Rattle.mdl_state.specs.Attempt.{Plan}
 use Rattle.mdl_num.specs.declared.status.TheConstants.{CF, PF, ZF, SF, OF}
 use Rattle.mdl_num.specs.Flags.{is_set}
 use Rattle.mdl_insn.specs.declared.instruction.Insn.{Insn}
-use Rattle.mdl_step.specs.Operands.{After, writing}
+use Rattle.mdl_effect.specs.Operands.{After, writing}
 
 -- a signed comparison came out less: SF is not OF
 abbrev pub is_less : ℕ → Bool

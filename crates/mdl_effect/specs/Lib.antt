@@ -1,0 +1,12 @@
+pub mod Operands
+pub mod Moves
+pub mod Arithmetic
+pub mod Shifts
+pub mod Conditions
+pub mod DataEffects
+pub mod StackEffects
+pub mod Jumps
+pub mod FlagEffects
+pub mod FlowEffects
+pub mod StringEffects
+pub mod Forms

@@ -1,0 +1,12 @@
+//! What the data, flow and string instructions do, as it is written down: plans of reads, writes and
+//! checks.
+//!
+//! The one contract used above is the definitions themselves, `data_effect`, `flow_effect` and
+//! `string_plan`, with the laws on what is spelt: its operands have the form of its mnemonic, it comes
+//! to no row that no instruction has, and it leaves the mode. Read `specs/Operands.antt` first, then
+//! `DataEffects`, `StackEffects`, `Jumps`, `FlowEffects`, `StringEffects`.
+#![tactic(auto)]
+
+mod laws;
+
+pub use laws::operands_have_the_form_of_their_mnemonic;
