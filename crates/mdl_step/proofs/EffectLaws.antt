@@ -1,11 +1,11 @@
 -- What an instruction does, by the family of its mnemonic.
-use Rattle.std.proofs.Common.{◌≡◌, ℕ, ◌&&◌, Bool, true, false, refl}
+use Rattle.std.proofs.Common.{◌≡◌, ℕ, ◌&&◌, true, false, refl}
 use Rattle.std.specs.Prelude.{not}
 use Rattle.std.proofs.lemmas.Bool.{false≢true}
 use Rattle.mdl_state.specs.declared.Regs.{Regs}
 use Rattle.mdl_insn.specs.declared.instruction.Insn.{Insn}
 use Rattle.mdl_insn.specs.declared.instruction.Operand.{Operand}
-use Rattle.mdl_insn.specs.declared.instruction.Operand.TheVariants.{Sreg, Far}
+use Rattle.mdl_insn.specs.declared.instruction.Operand.TheVariants.{Sreg}
 use Rattle.mdl_insn.specs.declared.mnemonics.Op.{Op}
 use Rattle.mdl_insn.specs.declared.mnemonics.Op.TheVariants as ops
 use Rattle.mdl_effect.specs.Operands.{is_segment}
@@ -14,7 +14,7 @@ use Rattle.mdl_effect.specs.StringEffects.{string_plan}
 use Rattle.mdl_step.specs.FarEffects.{far_jump_plan}
 use Rattle.mdl_effect.specs.FlowEffects.{is_flow, is_pop, runs_flow, flow_effect}
 use Rattle.mdl_effect.specs.StringEffects.{runs_string}
-use Rattle.mdl_step.specs.Effects.{is_far_jump, is_halt, halt_plan, is_built, effect}
+use Rattle.mdl_step.specs.Effects.{is_far_jump, is_halt, halt_plan, effect}
 
 -- what an instruction is of: none of the data mnemonics, none of the address ones, no POP of a segment register
 abbrev IsNoData : Op → Operand → Type 0

@@ -1,5 +1,3 @@
-pub mod RowTests
-pub mod FormLaws
 pub mod Unpaged
-pub mod FaultLaws
 pub mod EffectLaws
+pub mod StepLaws

@@ -1,13 +1,13 @@
--- Plans while paging is off: nothing is chosen, and only held writes and breakpoints met change memory.
-use Rattle.std.proofs.Common.{◌≡◌, ℕ, ◌+◌, ◌%◌, ◌^◌, false, List, [], refl, ap, ◌∙◌}
+-- Plans while paging is off: only held writes and breakpoints met change memory.
+use Rattle.std.proofs.Common.{◌≡◌, ℕ, ◌+◌, ◌%◌, ◌^◌, false, [], refl, ap, ◌∙◌}
 use Rattle.mdl_state.specs.declared.Size.{Size}
 use Rattle.mdl_state.specs.declared.Who.{Who}
 use Rattle.mdl_state.specs.declared.Access.{Access}
 use Rattle.mdl_state.specs.declared.Access.TheVariants.{Read, Write}
 use Rattle.mdl_state.specs.declared.Place.{Place}
-use Rattle.mdl_state.specs.State.{Mem, Item}
+use Rattle.mdl_state.specs.State.{Mem}
 use Rattle.mdl_state.specs.Watches.{hits_after, noted}
-use Rattle.mdl_state.specs.Serving.{Serve, Passed, on, with_items}
+use Rattle.mdl_state.specs.Serving.{Serve, Passed, on}
 use Rattle.mdl_state.specs.Accesses.{translated, bytes_here, got, held_at, read_at, written_at}
 use Rattle.mdl_state.specs.Attempt.{Plan, Done, Fail, Load, Store, Translate, Get, Hold, Input, tried}
 
@@ -29,20 +29,6 @@ plain_written serve m lin size value who off = ap (λ w. on w (λ place n. (Pass
 
 unmet : (m : Mem) (lin : ℕ) (size : Size) (access : Access) → m.watch ≡ [] → hits_after m.watch lin size access m.hits ≡ m.hits
 unmet m lin size access none = rw none refl
-
-pub nothing_chosen : {A : Type 0} (one other : Serve) (given : ℕ) (plan : Plan A) (m : Mem) (items : List Item) → m.paging ≡ false
-    → tried one given plan (with_items m items) ≡ ((tried other given plan m).0, with_items (tried other given plan m).1 items)
-nothing_chosen one other given (Done x) m items off = refl
-nothing_chosen one other given (Fail fault) m items off = refl
-nothing_chosen one other given (Load lin size who k) m items off =
-    rw (plain_read one (with_items m items) lin size who off, plain_read other m lin size who off) (nothing_chosen one other given (k (got m (plain_place lin size) size)) (noted m lin size (Read who)) items off)
-nothing_chosen one other given (Store lin size value who k) m items off =
-    rw (plain_written one (with_items m items) lin size value who off, plain_written other m lin size value who off) (nothing_chosen one other given k (held_at (noted m lin size (Write who)) (plain_place lin size) size value) items off)
-nothing_chosen one other given (Translate lin size access k) m items off =
-    rw (plain_translated one (with_items m items) lin size access off, plain_translated other m lin size access off) (nothing_chosen one other given (k (plain_place lin size)) (noted m lin size access) items off)
-nothing_chosen one other given (Get place size k) m items off = nothing_chosen one other given (k (got m place size)) m items off
-nothing_chosen one other given (Hold place size value k) m items off = nothing_chosen one other given k (held_at m place size value) items off
-nothing_chosen one other given (Input port size k) m items off = nothing_chosen one other given (k given) m items off
 
 pub only_held : {A : Type 0} (serve : Serve) (given : ℕ) (plan : Plan A) (m : Mem) → m.paging ≡ false
     → (tried serve given plan m).1 ≡ record m { held = (tried serve given plan m).1.held; hits = (tried serve given plan m).1.hits }
@@ -67,4 +53,4 @@ none_met serve given (Get place size k) m off none = none_met serve given (k (go
 none_met serve given (Hold place size value k) m off none = none_met serve given k (held_at m place size value) off none
 none_met serve given (Input port size k) m off none = none_met serve given (k given) m off none
 
-pub ruleset unpaged = (nothing_chosen, only_held, none_met)
+pub ruleset unpaged = (only_held, none_met)

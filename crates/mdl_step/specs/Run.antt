@@ -1,27 +1,51 @@
 -- Runs of the machine: steps, with the events that are due at each count of steps.
-use Rattle.std.specs.Prelude.{◌≡◌, ℕ, ◌+◌, ◌-◌, ◌^◌, ◌<◌, ◌==◌, List, [], ◌∷◌, length, min}
+use Rattle.std.specs.Prelude.{◌≡◌, ◌<◌, ◌≤◌, ℕ, ◌+◌, ◌-◌, ◌^◌, ◌==◌, List, [], ◌∷◌, length, min}
 use Rattle.std.specs.List.{filter}
 use Rattle.mdl_state.specs.declared.Event.{Event}
-use Rattle.mdl_state.specs.State.{State, Choice, Item, Old, Walk}
+use Rattle.mdl_state.specs.declared.EventKind.{EventKind}
+use Rattle.mdl_state.specs.State.{Item, Old, Walk, Choice}
+use Rattle.mdl_state.specs.Machine.{Rules, Machine}
 use Rattle.mdl_state.specs.Serving.{Policy}
+use Rattle.mdl_step.specs.Events.{applied}
 use Rattle.mdl_step.specs.Step.{Step, IsUnbuilt}
 
 -- the events of a count, in list order
 abbrev pub events_at : ℕ → List Event → List Event
 events_at count = filter (λ (e : Event). e.at == count)
 
--- no event is due. Own: A run without events.
-abbrev pub NoneDue : List Event → State → Type 0
-NoneDue events s = events_at s.core.steps events ≡ []
+module _ {B : Type 0} (rules : Rules B) (on_board : EventKind → B → B) (events : List Event) where
+  -- events one after the other
+  abbrev pub all_applied : List Event → Machine B → Machine B
+  all_applied [] m = m
+  all_applied (e ∷ es) m = all_applied es (applied rules on_board e.kind m)
 
--- steps with these choices, with the events of each new count
-abbrev pub Steps : Policy → List Event → State → List Choice → State → Type 0
-Steps policy events s [] t = t ≡ s
-Steps policy events s (choice ∷ choices) t = (mid : State) × Step policy s choice mid × NoneDue events mid × Steps policy events mid choices t
+  -- the machine after the events of its count of steps
+  abbrev pub after_events : Machine B → Machine B
+  after_events m = all_applied (events_at m.state.core.steps events) m
 
--- A run, with as many choices as steps. An event of a count above the last is not looked at.
-abbrev pub Run : Policy → State → List Event → List Choice → State → Type 0
-Run policy s events choices t = NoneDue events s × Steps policy events s choices t
+  -- Steps with these choices, and after each of them the events of the new count.
+  abbrev pub Steps : Policy → Machine B → List Choice → Machine B → Type 0
+  Steps policy m [] n = n ≡ m
+  Steps policy m (choice ∷ choices) n = (mid : Machine B) × Step rules policy m choice mid × Steps policy (after_events mid) choices n
+
+  -- A run, with as many choices as steps. An event of a count above the last is not applied.
+  abbrev pub Run : Policy → Machine B → List Choice → Machine B → Type 0
+  Run policy m choices n = Steps policy (after_events m) choices n
+
+  -- some run ends, before so many steps, where the next step is not built
+  pub record ReachesUnbuilt (policy : Policy) (m : Machine B) (steps : ℕ) : Type 0 where
+    pub choices : List Choice
+    pub last : Machine B
+    pub before : length choices < steps
+    pub run : Run policy m choices last
+    pub unbuilt : IsUnbuilt rules policy last
+
+-- the counts of the events do not fall, and the first is not below a number
+abbrev pub RisesFrom : ℕ → List Event → Type 0
+RisesFrom n [] = Unit {0}
+RisesFrom n (e ∷ es) = (n ≤ e.at) × RisesFrom e.at es
+
+-- ---- walks
 
 -- the number of walks among items
 abbrev pub walks_of : List Item → ℕ
@@ -36,11 +60,3 @@ all_walks (choice ∷ choices) = walks_of choice.served + all_walks choices
 -- the number of walks in choices, up to its last value
 abbrev pub walk_count : List Choice → ℕ
 walk_count choices = min (all_walks choices) (2 ^ 64 - 1)
-
--- some run ends, before so many steps, where no next step is built
-pub record ReachesUnbuilt (policy : Policy) (s : State) (events : List Event) (steps : ℕ) : Type 0 where
-  pub choices : List Choice
-  pub last : State
-  pub before : length choices < steps
-  pub run : Run policy s events choices last
-  pub unbuilt : IsUnbuilt policy last
