@@ -1,84 +1,95 @@
--- What decoding says of the instruction at CS:EIP, while paging is off.
-use Rattle.std.proofs.Common.{◌≡◌, ℕ, false, List, subst, arith}
+-- What decoding says of the instruction at CS:EIP.
+use Rattle.std.proofs.Common.{◌≡◌, ℕ, ◌+◌, Bool, false, List, [], ◌∷◌, ◌++◌, length, refl, sym, ap, subst, ◌∙◌, arith, inl, inr, length-append}
 use Rattle.mdl_state.specs.declared.Regs.{Regs}
 use Rattle.mdl_state.specs.declared.Fault.{Fault}
 use Rattle.mdl_state.specs.declared.Seg.TheVariants.{Cs}
 use Rattle.mdl_state.specs.Registers.{seg_of}
 use Rattle.mdl_state.specs.State.{Mem}
-use Rattle.mdl_cpu.specs.Segments.{who_of}
-use Rattle.operands.specs.Whole.{whole}
-use Rattle.mdl_state.specs.Serving.{Pick, Serve, by_pick, Passed}
+use Rattle.mdl_state.specs.Serving.{Pick, by_pick, Passed}
 use Rattle.mdl_state.specs.Attempt.{tried}
+use Rattle.mdl_cpu.specs.Segments.{who_of, has_protection}
+use Rattle.mdl_cpu.specs.Faults.{undefined_opcode, general_protection}
 use Rattle.mdl_insn.specs.declared.instruction.Insn.{Insn}
-use Rattle.mdl_insn.specs.Spelling.{Spelt}
-use Rattle.mdl_step.specs.Fetching.{fetched_from, fetch_plan}
-use Rattle.insn_decode.specs.Decoded.{Takes, IsUndefined, IsLong, IsCut}
-use Rattle.insn_decode.specs.Slices.{TakesFront}
-use Rattle.insn_decode.proofs.Fronts.{takes_front, undefined_front, long_front, short_front}
-use Rattle.insn_decode.proofs.Only.{only_ok, only_undefined, only_long, only_short}
-use Rattle.cpu_core.specs.Window.{Window, IsAt, IsPlain, rest_of}
-use Rattle.cpu_core.specs.Executing.{Decodes, DecodesNone, DecodesOnly}
-use Rattle.cpu_core.proofs.Windows.{by_window, came_fetched, plain_takes, plain_undefined, plain_long, plain_cut, Front, front_of}
+use Rattle.mdl_insn.specs.Spelling.{Spelt, Begun}
+use Rattle.mdl_step.specs.Fetching.{fetched_from, fetch_plan, is_wide, Instruction, Refused, Fetches}
+use Rattle.insn_decode.specs.declared.refusals.Undecoded.{Undecoded}
+use Rattle.insn_decode.specs.declared.refusals.Undecoded.TheVariants as causes
+use Rattle.insn_decode.specs.Decoded as decoded
+use Rattle.operands.specs.Whole.{whole}
+use Rattle.cpu_core.specs.Plain.{IsPlain}
+use Rattle.cpu_core.specs.Window.{Window, IsAt}
+use Rattle.cpu_core.proofs.Windows.{by_window, came_fetched, came_at, cut_fetched, gives_same, came_same}
 
 -- a window that was put at CS:EIP
 pub started : (r : Regs) (flags : ℕ) (w : Window) → w.base ≡ (seg_of r Cs).base → w.limit ≡ (seg_of r Cs).limit → w.who ≡ who_of r → w.offset ≡ r.eip → IsAt (whole r flags) 0 w
 unfolding seg_of
 started r flags w base limit who offset = record { base = base; limit = limit; who = who; offset = omega (arith, offset) }
 
--- an instruction that is fetched is the front of the code
-front : (serve : Serve) (r : Regs) (w : Window) (insn : Insn) (count : ℕ) (n : Mem) → IsAt r 0 w → IsPlain w.mem → Decodes serve r w.mem insn count n
-    → TakesFront (rest_of w) false insn count × (n ≡ w.mem)
-unfolding fetch_plan
-front serve r w insn count n at off d =
-    let f : Front count d.bytes w n = front_of serve r 0 count w d.bytes n at off d.fetched in
-    (record { spelt = subst (λ (xs : List ℕ). Spelt xs false insn) f.bytes_are d.spelt; inside = f.inside; within = d.within }, f.same)
+-- code of real mode has 16 bits
+pub narrow : (r : Regs) → has_protection r ≡ false → is_wide r ≡ false
+narrow r e = rw e refl
 
-module _ {S : Type 0} (pick : Pick) (window : S → Window) (r : Regs) (s e : S) (at : IsAt r 0 (window s)) (off : IsPlain (window s).mem) where
-  pub decodes : (insn : Insn) (count : ℕ) → Takes (by_window pick window) false s insn count e → Decodes (by_pick pick) r (window s).mem insn count (window e).mem
+module _ {S : Type 0} (pick : Pick) (window : S → Window) (r : Regs) (s e : S) (at : IsAt r 0 (window s)) (real : is_wide r ≡ false) where
+  pub takes : (insn : Insn) (count : ℕ) → decoded.Takes (by_window pick window) false s insn count e → Fetches (by_pick pick) r (window s).mem (Instruction insn count) (window e).mem
   unfolding fetch_plan
-  decodes insn count t = record {
+  takes insn count t = record {
     bytes = t.bytes;
     within = t.within;
     fetched = subst (λ (k : ℕ). tried (by_pick pick) 0 (fetched_from r 0 k) (window s).mem ≡ (Passed t.bytes, (window e).mem)) t.len_is (came_fetched pick window r 0 s t.bytes e at t.came);
-    spelt = t.spelt;
+    spelt = subst (λ (big : Bool). Spelt t.bytes big insn) (sym real) t.spelt;
   }
 
-  pub decodes_only : (insn : Insn) (count : ℕ) → Takes (by_window pick window) false s insn count e → DecodesOnly r (window s).mem insn count
-  decodes_only insn count t serve other len n d =
-      let mine = takes_front (λ x. rest_of (window x)) false s insn count e (plain_takes pick window false s insn count e t off).0 in
-      let theirs = front serve r (window s) other len n at off d in
-      let one = only_ok (rest_of (window s)) false insn other count len mine.inside mine.spelt theirs.0 in
-      (one.0, one.1, theirs.1)
+  undefined : decoded.IsUndefined (by_window pick window) false s e → Fetches (by_pick pick) r (window s).mem (Refused undefined_opcode) (window e).mem
+  unfolding fetch_plan
+  undefined u = inl (
+    record {
+      front = u.front;
+      last = u.last;
+      within = u.within;
+      fetched = subst (λ (k : ℕ). tried (by_pick pick) 0 (fetched_from r 0 k) (window s).mem ≡ (Passed (u.front ++ u.last ∷ []), (window e).mem)) (length-append u.front (u.last ∷ []))
+          (came_fetched pick window r 0 s (u.front ++ u.last ∷ []) e at u.came);
+      begun = subst (λ (big : Bool). Begun u.front big) (sym real) u.begun;
+      not_begun = λ b. u.not_begun (subst (λ (big : Bool). Begun (u.front ++ u.last ∷ []) big) real b);
+      not_spelt = λ insn b. u.not_spelt insn (subst (λ (big : Bool). Spelt (u.front ++ u.last ∷ []) big insn) real b);
+    },
+    refl,
+  )
 
-  pub takes_same : (insn : Insn) (count : ℕ) → Takes (by_window pick window) false s insn count e → (window e).mem ≡ (window s).mem
-  takes_same insn count t = (plain_takes pick window false s insn count e t off).1
+  too_long : decoded.IsLong (by_window pick window) false s e → Fetches (by_pick pick) r (window s).mem (Refused (general_protection 0)) (window e).mem
+  unfolding fetch_plan
+  too_long u = inr (inl (
+    record {
+      bytes = u.bytes;
+      fetched = subst (λ (k : ℕ). tried (by_pick pick) 0 (fetched_from r 0 k) (window s).mem ≡ (Passed u.bytes, (window e).mem)) u.len_is (came_fetched pick window r 0 s u.bytes e at u.came);
+      begun = subst (λ (big : Bool). Begun u.bytes big) (sym real) u.begun;
+    },
+    refl,
+  ))
 
-  pub undefined_none : IsUndefined (by_window pick window) false s e → DecodesNone r (window s).mem × ((window e).mem ≡ (window s).mem)
-  undefined_none u =
-      let p = plain_undefined pick window false s e u off in (
-        λ serve other len n d.
-            let theirs = front serve r (window s) other len n at off d in
-            let t = theirs.0 in
-            only_undefined (rest_of (window s)) false other len t.inside t.spelt (undefined_front (λ x. rest_of (window x)) false s e p.0),
-        p.1,
-      )
+  cut : (fault : Fault) → decoded.IsCut (by_window pick window) false s fault e → Fetches (by_pick pick) r (window s).mem (Refused fault) (window e).mem
+  unfolding fetch_plan
+  cut fault u = inr (inr (record {
+    bytes = u.bytes;
+    before = (window u.mid).mem;
+    within = u.within;
+    fetched = came_fetched pick window r 0 s u.bytes u.mid at u.came;
+    begun = subst (λ (big : Bool). Begun u.bytes big) (sym real) u.begun;
+    failed = cut_fetched pick r (length u.bytes) (window u.mid) (window e) fault (came_at pick window r 0 s u.bytes u.mid at u.came) u.fails;
+  }))
 
-  pub long_none : IsLong (by_window pick window) false s e → DecodesNone r (window s).mem × ((window e).mem ≡ (window s).mem)
-  long_none u =
-      let p = plain_long pick window false s e u off in (
-        λ serve other len n d.
-            let theirs = front serve r (window s) other len n at off d in
-            let t = theirs.0 in
-            only_long (rest_of (window s)) false other len t.within t.spelt (long_front (λ x. rest_of (window x)) false s e p.0),
-        p.1,
-      )
+  -- why there is no instruction, as a fault
+  pub refuses : (cause : Undecoded) → decoded.Refused (by_window pick window) false s cause e → (fault : Fault) × Fetches (by_pick pick) r (window s).mem (Refused fault) (window e).mem
+  refuses causes.Undefined u = (undefined_opcode, undefined u)
+  refuses causes.TooLong u = (general_protection 0, too_long u)
+  refuses (causes.Fetch fault) u = (fault, cut fault u)
 
-  pub cut_none : (fault : Fault) → IsCut (by_window pick window) false s fault e → DecodesNone r (window s).mem × ((window e).mem ≡ (window s).mem)
-  cut_none fault u =
-      let p = plain_cut pick window false s fault e u off in (
-        λ serve other len n d.
-            let theirs = front serve r (window s) other len n at off d in
-            let t = theirs.0 in
-            only_short (rest_of (window s)) false other len t.inside t.spelt (short_front (λ x. rest_of (window x)) false s fault e p.0),
-        p.1,
-      )
+module _ {S : Type 0} (pick : Pick) (window : S → Window) (s e : S) (plain : IsPlain (window s).mem) where
+  pub takes_same : (insn : Insn) (count : ℕ) → decoded.Takes (by_window pick window) false s insn count e → (window e).mem ≡ (window s).mem
+  takes_same insn count t = came_same pick window s t.bytes e plain t.came
+
+  pub refuses_same : (cause : Undecoded) → decoded.Refused (by_window pick window) false s cause e → (window e).mem ≡ (window s).mem
+  refuses_same causes.Undefined u = came_same pick window s (u.front ++ u.last ∷ []) e plain u.came
+  refuses_same causes.TooLong u = came_same pick window s u.bytes e plain u.came
+  refuses_same (causes.Fetch fault) u =
+      let same = came_same pick window s u.bytes u.mid plain u.came in
+      gives_same pick (window u.mid) (window e) _ (subst IsPlain (sym same) plain) u.fails ∙ same

@@ -1,5 +1,7 @@
+pub mod Modes
+pub mod Rows
 pub mod Windows
 pub mod Fetched
-pub mod Modes
 pub mod Settled
+pub mod Resumed
 pub mod Steps

@@ -1,22 +1,30 @@
 -- The kept status flags are not of the mode.
-use Rattle.std.proofs.Common.{◌≡◌, ℕ, refl, arith}
-use Rattle.std.specs.Int.{bit_at}
+use Rattle.std.proofs.Common.{◌≡◌, ◌≢◌, ℕ, Bool, refl, sym, ap, arith, ◌∙◌, inl, inr}
+use Rattle.std.specs.Int.{bit_at, from_bool}
+use Rattle.std.proofs.lemmas.Bool.{cases_eq}
+use Rattle.std.proofs.lemmas.Nat.Bits.{same_from_bits}
 use Rattle.mdl_state.specs.declared.Regs.{Regs}
-use Rattle.mdl_step.specs.Step.{is_plain_mode}
+use Rattle.mdl_state.specs.declared.Latches.{Latches}
+use Rattle.mdl_num.specs.Flags.{with_bit}
+use Rattle.mdl_num.specs.declared.status.TheConstants.{CF, PF, AF, ZF, SF, OF}
+use Rattle.mdl_num.proofs.Places.{bit_at-with_bit, bit_at-with_bit_other}
+use Rattle.mdl_cpu.specs.SystemFlags.{TF, IF, RF}
+use Rattle.mdl_step.specs.Boundary.{takes_line}
+use Rattle.mdl_step.specs.Step.{is_covered}
 use Rattle.lazy_flags.specs.Keeper.{with_status}
 use Rattle.operands.specs.Whole.{whole}
 use Rattle.operands.proofs.Statuses.{other_bit}
 
-trap_bit : (e f : ℕ) → bit_at (with_status e f) 8 ≡ bit_at e 8
-trap_bit e f = other_bit e f 8 (omega arith) (omega arith) (omega arith) (omega arith) (omega arith) (omega arith)
+pub trap_bit : (e f : ℕ) → bit_at (with_status e f) TF ≡ bit_at e TF
+trap_bit e f = other_bit e f TF (omega arith) (omega arith) (omega arith) (omega arith) (omega arith) (omega arith)
 
-interrupt_bit : (e f : ℕ) → bit_at (with_status e f) 9 ≡ bit_at e 9
-interrupt_bit e f = other_bit e f 9 (omega arith) (omega arith) (omega arith) (omega arith) (omega arith) (omega arith)
+pub interrupt_bit : (e f : ℕ) → bit_at (with_status e f) IF ≡ bit_at e IF
+interrupt_bit e f = other_bit e f IF (omega arith) (omega arith) (omega arith) (omega arith) (omega arith) (omega arith)
 
-resume_bit : (e f : ℕ) → bit_at (with_status e f) 16 ≡ bit_at e 16
-resume_bit e f = other_bit e f 16 (omega arith) (omega arith) (omega arith) (omega arith) (omega arith) (omega arith)
+pub whole_covered : (r : Regs) (f : ℕ) → is_covered (whole r f) ≡ is_covered r
+whole_covered r f = rw (trap_bit r.eflags f) refl
 
-pub whole_mode : (r : Regs) (f : ℕ) → is_plain_mode (whole r f) ≡ is_plain_mode r
-whole_mode r f = rw (trap_bit r.eflags f, interrupt_bit r.eflags f, resume_bit r.eflags f) refl
+pub whole_line : (wants : Bool) (r : Regs) (f : ℕ) (latches : Latches) → takes_line wants (whole r f) latches ≡ takes_line wants r latches
+whole_line wants r f latches = rw (interrupt_bit r.eflags f) refl
 
-pub ruleset modes = (whole_mode)
+pub ruleset modes = (whole_covered, whole_line)

@@ -1,4 +1,4 @@
-pub mod Machine
+pub mod Plain
 pub mod Window
 pub mod Executing
 pub mod Rows

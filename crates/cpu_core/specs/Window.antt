@@ -1,5 +1,5 @@
 -- Code as it is fetched from memory, one byte after the other. Manual, chapter 6.
-use Rattle.std.specs.Prelude.{◌≡◌, ℕ, zero, suc, false, ◌+◌, ◌-◌, ◌%◌, ◌^◌, nat_le, if◌then◌else◌, List, [], ◌∷◌, Result, OnOk, OnErr}
+use Rattle.std.specs.Prelude.{◌≡◌, ℕ, ◌+◌, ◌%◌, ◌^◌, nat_le, if◌then◌else◌, Result, OnOk, OnErr}
 use Rattle.mdl_state.specs.declared.Size.TheVariants.{B1}
 use Rattle.mdl_state.specs.declared.Seg.TheVariants.{Cs}
 use Rattle.mdl_state.specs.declared.Regs.{Regs}
@@ -8,11 +8,9 @@ use Rattle.mdl_state.specs.declared.Fault.{Fault}
 use Rattle.mdl_state.specs.State.{Mem}
 use Rattle.mdl_state.specs.Registers.{seg_of}
 use Rattle.mdl_state.specs.Serving.{Pick, by_pick, outcome}
-use Rattle.mdl_state.specs.Accesses.{got}
 use Rattle.mdl_state.specs.Attempt.{Plan, Done, Fail, Load, tried}
 use Rattle.mdl_cpu.specs.Segments.{who_of}
 use Rattle.mdl_cpu.specs.Faults.{general_protection}
-use Rattle.mdl_step.proofs.Unpaged.{plain_place}
 
 -- the base and the limit of CS, for whom code is read, the offset of the next byte, and memory
 pub record Window : Type 0 where
@@ -22,13 +20,9 @@ pub record Window : Type 0 where
   pub offset : ℕ
   pub mem : Mem
 
--- the linear address of the next byte
-abbrev pub linear : Window → ℕ
-linear w = (w.base + w.offset) % 2 ^ 32
-
 -- the next byte
 abbrev pub byte_plan : Window → Plan ℕ
-byte_plan w = if nat_le w.offset w.limit then Load (linear w) B1 w.who (λ byte. Done byte) else Fail (general_protection 0)
+byte_plan w = if nat_le w.offset w.limit then Load ((w.base + w.offset) % 2 ^ 32) B1 w.who (λ byte. Done byte) else Fail (general_protection 0)
 
 -- one byte is fetched, and the window then is at the next
 pub record Gives (pick : Pick) (w : Window) (r : Result ℕ Fault) (v : Window) : Type 0 where
@@ -37,7 +31,6 @@ pub record Gives (pick : Pick) (w : Window) (r : Result ℕ Fault) (v : Window) 
   pub limit : v.limit ≡ w.limit
   pub who : v.who ≡ w.who
   pub next : OnOk r (v.offset ≡ w.offset + 1)
-  pub stays : OnErr r (v.offset ≡ w.offset)
 
 -- the window is at byte n of the code at CS:EIP
 pub record IsAt (r : Regs) (n : ℕ) (w : Window) : Type 0 where
@@ -45,20 +38,3 @@ pub record IsAt (r : Regs) (n : ℕ) (w : Window) : Type 0 where
   pub limit : w.limit ≡ (seg_of r Cs).limit
   pub who : w.who ≡ who_of r
   pub offset : w.offset ≡ r.eip + n
-
--- ---- the code while paging is off and no breakpoint is looked for
-
-abbrev pub IsPlain : Mem → Type 0
-IsPlain m = (m.paging ≡ false) × (m.watch ≡ [])
-
--- the byte at a linear address
-abbrev pub plain_byte : Mem → ℕ → ℕ
-plain_byte m lin = got m (plain_place lin B1) B1
-
-abbrev pub plain_bytes : Mem → ℕ → ℕ → ℕ → List ℕ
-plain_bytes m base offset zero = []
-plain_bytes m base offset (suc count) = plain_byte m ((base + offset) % 2 ^ 32) ∷ plain_bytes m base (offset + 1) count
-
--- all bytes from the next one to the end of the segment
-abbrev pub rest_of : Window → List ℕ
-rest_of w = plain_bytes w.mem w.base w.offset (suc w.limit - w.offset)

@@ -1,11 +1,16 @@
 //! The boundary between two instructions. Manual, chapters 9 and 10.
 
 ghost use Rattle.std.specs.Prelude.{◌≡◌, ℕ};
-ghost use Rattle.mdl_step.specs.Boundary.{takes_nmi, takes_trap, boundary_rows};
+ghost use Rattle.mdl_state.specs.Bytes.{bit};
+ghost use Rattle.mdl_step.specs.Boundary.{takes_nmi, takes_trap, takes_line, boundary_rows};
 ghost use Rattle.mdl_step.specs.Step.{hold_after, activity_after};
-ghost use Rattle.cpu_core.specs.Rows.{row_of};
+ghost use Rattle.operands.specs.Whole.{whole};
+ghost use Rattle.cpu_core.specs.Rows.{IsRow};
 
-use mdl_state::{Activity, Latches, Next};
+use mdl_state::{Activity, Latches, Next, Regs};
+
+/// The number of IF in EFLAGS.
+const INTERRUPTS: u8 = 9;
 
 /// Every interrupt and debug trap is held back for one instruction.
 const HOLD_ALL: u8 = 1;
@@ -19,6 +24,14 @@ pub(crate) enum Row {
     Idle,
     Execute,
     Deliver,
+}
+
+/// Whether a bit is 1.
+pub(crate) fn has(number: u32, place: u8) -> bool
+    requires { place < 32 }
+    ensures { result ≡ bit number place }
+{
+    (number >> place) & 1 == 1
 }
 
 /// An NMI waits, is not masked, and nothing holds it back.
@@ -35,21 +48,30 @@ fn takes_trap(latches: &Latches) -> bool
     latches.pending != 0 && latches.hold != HOLD_ALL
 }
 
-/// The first row that holds.
+/// The board wants an interrupt, which IF lets in, and nothing holds it back.
+#[tactic(auto, using(crate::proofs::Modes::modes))]
+fn takes_line(wants: bool, regs: &Regs, latches: &Latches) -> bool
+    ensures { (flags : ℕ) → result ≡ takes_line wants (whole regs.now flags) latches.now }
+{
+    wants && has(regs.eflags, INTERRUPTS) && latches.hold == 0
+}
+
+/// The first row that holds. Whether a breakpoint comes before an instruction is not told.
 #[inline(always)]
-pub(crate) fn boundary(activity: Activity, latches: &Latches) -> Row
-    ensures { row_of result ≡ boundary_rows activity latches.now }
+#[tactic(auto, using(crate::proofs::Rows::told))]
+pub(crate) fn boundary(activity: Activity, wants: bool, regs: &Regs, latches: &Latches) -> Row
+    ensures { (flags hits : ℕ) → IsRow result (boundary_rows activity wants hits (whole regs.now flags) latches.now) }
 {
     match activity {
         Activity::Running => {
-            if takes_trap(latches) || takes_nmi(latches) {
+            if takes_trap(latches) || takes_nmi(latches) || takes_line(wants, regs, latches) {
                 Row::Deliver
             } else {
                 Row::Execute
             }
         }
         Activity::Halted => {
-            if takes_trap(latches) || takes_nmi(latches) {
+            if takes_trap(latches) || takes_nmi(latches) || takes_line(wants, regs, latches) {
                 Row::Deliver
             } else {
                 Row::Idle

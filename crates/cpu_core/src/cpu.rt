@@ -2,23 +2,25 @@
 
 ghost use Rattle.std.specs.Prelude.{◌≡◌, ◌<◌, ◌+◌, ◌-◌, ◌^◌, ℕ, [], true, false};
 ghost use Rattle.std.specs.Bool.{OnTrue, OnFalse};
-ghost use Rattle.std.specs.FinMap.{empty};
 ghost use Rattle.std.specs.Borrow.{Lends, sem};
 ghost use Rattle.mdl_state.specs.Boot.{reset_core};
 ghost use Rattle.mdl_state.specs.Choices.{Meets};
+ghost use Rattle.mdl_state.specs.Machine.{Machine};
 ghost use Rattle.mdl_state.specs.Serving.{Policy};
+ghost use Rattle.mem_iface.specs.Rules.{rules_of};
 ghost use Rattle.mdl_step.specs.Boundary as rows;
-ghost use Rattle.mdl_step.specs.Boundary.{boundary};
-ghost use Rattle.mdl_step.specs.Events.{with_nmi, after_reset};
+ghost use Rattle.mdl_step.specs.Events.{with_nmi, reset_with};
 ghost use Rattle.mdl_step.specs.RunLaws.{SomeStep};
-ghost use Rattle.mdl_step.specs.Step.{IsUnbuilt};
-ghost use Rattle.cpu_core.specs.Machine.{Machine};
+ghost use Rattle.mdl_step.specs.Step.{EndsBy, row_of, IsUnbuilt};
+ghost use Rattle.cpu_core.specs.Executing.{SomeExecution};
+ghost use Rattle.cpu_core.specs.Plain.{IsPlain};
+ghost use Rattle.cpu_core.specs.Rows.{MayExecute};
 ghost use Rattle.cpu_core.specs.contracts.cpu.Cpu.{the_row};
 
 use crate::boundary::{Row, activity_after, boundary, hold_after};
 use crate::code::Code;
 use crate::decoding::decode;
-use crate::execute::{execute, is_plain_mode, land};
+use crate::execute::{execute, is_covered, land, masks};
 use crate::reset::{clear_latches, reset_regs};
 use insn_decode::blank;
 use lazy_flags::Flags;
@@ -27,7 +29,7 @@ use mdl_state::{Activity, Latches, Regs};
 use mem_iface::{Linear, Ports};
 use std::marker::Model;
 
-/// The processor over a memory and over ports, seen as the machine beside its ports.
+/// The processor over a memory and over ports, seen as the machine with the ports as its board.
 ///
 /// The status flags are kept apart from EFLAGS, and `insn` is the place of the instruction that is
 /// decoded. Paging is off, nothing is held, no items are left, and no
@@ -45,11 +47,11 @@ pub struct Cpu<L: Linear, P: Ports> {
 }
 
 impl<L: Linear, P: Ports> Model for Cpu<L, P> {
-    ghost use Rattle.std.specs.Prelude.{◌≡◌, false, []};
     ghost use Rattle.std.specs.Coded.{codes};
     ghost use Rattle.mdl_state.specs.Codes.{mem_code};
+    ghost use Rattle.mdl_state.specs.Machine.{Machine};
     ghost use Rattle.operands.specs.Whole.{whole};
-    ghost use Rattle.cpu_core.specs.Machine.{Machine};
+    ghost use Rattle.cpu_core.specs.Plain.{IsPlain};
 
     ghost Value = { Machine P };
 
@@ -60,10 +62,10 @@ impl<L: Linear, P: Ports> Model for Cpu<L, P> {
         core = record { regs = whole p.regs p.flags; activity = p.activity; latches = p.latches; steps = p.steps };
         mem = L.seen p.code.lin;
       };
-      ports = p.ports;
+      board = p.ports;
     } };
 
-    ghost invariant = { λ p. ((L.seen p.code.lin).paging ≡ false) × ((L.seen p.code.lin).held ≡ []) × ((L.seen p.code.lin).served ≡ []) × ((L.seen p.code.lin).watch ≡ []) };
+    ghost invariant = { λ p. IsPlain (L.seen p.code.lin) };
 }
 
 impl<L: Linear, P: Ports> Cpu<L, P> {
@@ -91,18 +93,19 @@ impl<L: Linear, P: Ports> Cpu<L, P> {
         }
     }
 
-    /// Executes the instruction at CS:EIP, or answers false where no step that does is built, and then
-    /// changes nothing.
+    /// Executes the instruction at CS:EIP, or answers false where that is not built, and then changes
+    /// nothing.
     fn execute(&mut self) -> bool
-        requires row { boundary self.old.state.core ≡ rows.Execute }
-        requires steps { self.old.state.core.steps < 2 ^ 64 - 1 }
-        ensures made { OnTrue result ((policy : Policy) → Meets L.pick policy → SomeStep policy self.old.state self.new.state) }
-        ensures count { OnTrue result (self.new.state.core.steps ≡ self.old.state.core.steps + 1) }
-        ensures unbuilt { OnFalse result ((policy : Policy) → IsUnbuilt policy self.old.state) }
-        ensures unchanged { OnFalse result (self.new.state ≡ self.old.state) }
-        ensures ports { self.new.ports ≡ self.old.ports }
+        requires row { MayExecute (row_of (rules_of P.Ports) self.old) }
+        ensures row { OnTrue result (row_of (rules_of P.Ports) self.old ≡ rows.Execute) }
+        ensures made { OnTrue result ((policy : Policy) → Meets L.pick policy → SomeExecution (rules_of P.Ports) policy self.old self.new) }
+        ensures unbuilt { OnFalse result ((policy : Policy) → Meets L.pick policy → IsUnbuilt (rules_of P.Ports) policy self.old) }
+        ensures unchanged { OnFalse result (self.new ≡ self.old) }
+        ensures count { self.new.state.core.steps ≡ self.old.state.core.steps }
+        ensures a20 { self.new.state.mem.physical.a20 ≡ self.old.state.mem.physical.a20 }
+        ensures board { self.new.board ≡ self.old.board }
     {
-        if !is_plain_mode(&self.regs) {
+        if !is_covered(&self.regs) {
             return false;
         }
         let Some(count) = decode(&mut self.code, &self.regs, &mut self.insn) else {
@@ -118,39 +121,59 @@ impl<L: Linear, P: Ports> Cpu<L, P> {
         ) else {
             return false;
         };
-        land(&mut self.regs, next, back);
+        land(&mut self.regs, self.insn.op, next, back);
         self.activity = activity_after(next);
+        self.latches.masked = masks(self.insn.op, self.latches.masked);
         self.latches.hold = hold_after(next);
-        self.steps += 1;
         true
     }
 
-    /// Makes a step of the written machine, for some choice whose items meet each policy that those of
-    /// the memory meet. Answers false where no step is built, whatever is chosen.
-    pub fn step(&mut self) -> bool
-        requires { self.old.state.core.steps < 2 ^ 64 - 1 }
-        ensures made { OnTrue result ((policy : Policy) → Meets L.pick policy → SomeStep policy self.old.state self.new.state) }
-        ensures count { OnTrue result (self.new.state.core.steps ≡ self.old.state.core.steps + 1) }
-        ensures unbuilt { OnFalse result ((policy : Policy) → IsUnbuilt policy self.old.state) }
-        ensures unchanged { OnFalse result (self.new.state ≡ self.old.state) }
-        ensures ports { self.new.ports ≡ self.old.ports }
+    /// Counts a step, and makes the reset that the ports ask for.
+    fn finish(&mut self)
+        requires steps { self.old.state.core.steps < 2 ^ 64 - 1 }
+        requires a20 { P.gate self.old.board ≡ self.old.state.mem.physical.a20 }
+        ensures ends { EndsBy (P.asks self.old.board) (rules_of P.Ports) self.old self.new }
+        ensures count { self.new.state.core.steps ≡ self.old.state.core.steps + 1 }
+        ensures a20 { P.gate self.new.board ≡ self.new.state.mem.physical.a20 }
     {
-        match boundary(self.activity, &self.latches) {
-            Row::Idle => {
-                self.steps += 1;
-                true
-            }
-            Row::Deliver => false,
-            Row::Execute => self.execute(),
+        self.steps += 1;
+        if self.ports.take_reset() {
+            self.reset();
         }
+    }
+
+    /// Makes a step of the written machine, for some choice whose items meet each policy that those of
+    /// the memory meet. Answers false where the next step is not built, and then changes nothing.
+    ///
+    /// The line A20 of the memory is that of the ports, before it and behind it.
+    pub fn step(&mut self) -> bool
+        requires steps { self.old.state.core.steps < 2 ^ 64 - 1 }
+        requires a20 { P.gate self.old.board ≡ self.old.state.mem.physical.a20 }
+        ensures made { OnTrue result ((policy : Policy) → Meets L.pick policy → SomeStep (rules_of P.Ports) policy self.old self.new) }
+        ensures count { OnTrue result (self.new.state.core.steps ≡ self.old.state.core.steps + 1) }
+        ensures unbuilt { OnFalse result ((policy : Policy) → Meets L.pick policy → IsUnbuilt (rules_of P.Ports) policy self.old) }
+        ensures unchanged { OnFalse result (self.new ≡ self.old) }
+        ensures a20 { P.gate self.new.board ≡ self.new.state.mem.physical.a20 }
+    {
+        let wants = self.ports.wants_interrupt();
+        match boundary(self.activity, wants, &self.regs, &self.latches) {
+            Row::Idle => {}
+            Row::Deliver => return false,
+            Row::Execute => {
+                if !self.execute() {
+                    return false;
+                }
+            }
+        }
+        self.finish();
+        true
     }
 
     /// Resets the processor. Memory, the ports and the count of steps stay; the line A20 is then as the
     /// ports have it. Manual, chapter 10.
     #[tactic(auto, unfolding(lazy_flags::specs::Keeper::with_status, mdl_num::specs::Flags::is_set, mdl_num::specs::Flags::with_bit))]
     pub fn reset(&mut self)
-        ensures state { self.new.state ≡ after_reset (P.gate self.old.ports) self.old.state }
-        ensures ports { self.new.ports ≡ self.old.ports }
+        ensures { self.new ≡ reset_with (rules_of P.Ports) self.old.board self.old }
     {
         self.regs = reset_regs();
         self.flags = Flags::unpack(self.regs.eflags);
@@ -164,7 +187,7 @@ impl<L: Linear, P: Ports> Cpu<L, P> {
     /// Latches a non-maskable interrupt. Manual, chapter 9.
     pub fn nmi(&mut self)
         ensures state { self.new.state ≡ with_nmi self.old.state }
-        ensures ports { self.new.ports ≡ self.old.ports }
+        ensures board { self.new.board ≡ self.old.board }
     {
         self.latches.nmi = true;
     }
@@ -194,15 +217,15 @@ impl<L: Linear, P: Ports> Cpu<L, P> {
 
     /// The ports.
     pub fn ports(&self) -> &P
-        ensures { result.now ≡ self.now.ports }
+        ensures { result.now ≡ self.now.board }
     {
         &self.ports
     }
 
     /// The ports, to be changed. Whoever changes the line A20 there calls `reset` next.
     pub fn ports_mut(&mut self) -> &mut P
-        ensures* lends { sem 𝓛 (Lends (the_row L.row P.row L.Linear P.Ports) P.row self.entry result (λ (w : P). let m : Machine P = record { state = self.old.state; ports = w } in m)) }
-        ensures value { result.now ≡ self.old.ports }
+        ensures* lends { sem 𝓛 (Lends (the_row L.row P.row L.Linear P.Ports) P.row self.entry result (λ (w : P). let m : Machine P = record { state = self.old.state; board = w } in m)) }
+        ensures value { result.now ≡ self.old.board }
     {
         &mut self.ports
     }

@@ -1,54 +1,43 @@
-//! One instruction: what it leaves, or that it does not pass.
+//! One instruction: what it leaves, or that it faults.
 
-ghost use Rattle.std.specs.Prelude.{◌≡◌, ◌<◌, ℕ, Bool, false, List, IfSome, IfNone, [], IsTrue};
+ghost use Rattle.std.specs.Prelude.{◌≡◌, ℕ, Bool, false, List, IfSome, IfNone, OnSome};
 ghost use Rattle.mdl_insn.specs.Spelling.{Spelt};
-ghost use Rattle.mdl_state.specs.Bytes.{bit};
-ghost use Rattle.mdl_step.specs.Step.{is_plain_mode, landed};
+ghost use Rattle.mdl_state.specs.Accesses.{Keeps};
+ghost use Rattle.mdl_cpu.specs.Segments.{has_protection};
+ghost use Rattle.mdl_step.specs.Step.{is_covered, keeps_resume, landed, resumed, masks};
 ghost use Rattle.operands.specs.Whole.{whole};
-ghost use Rattle.cpu_core.specs.Executing.{Passes, IsRefused};
+ghost use Rattle.cpu_core.specs.Executing.{Passes, Faults};
+ghost use Rattle.cpu_core.specs.Plain.{IsPlain};
 
+use crate::boundary::has;
 use crate::dispatch::run;
 use lazy_flags::Flags;
-use mdl_insn::Insn;
+use mdl_insn::{Insn, Op};
+use mdl_num::with_bit;
 use mdl_state::{Next, Regs};
 use mem_iface::Linear;
 
 /// The number of PE in CR0.
 const PROTECTION: u8 = 0;
 
-/// The numbers of TF, IF and RF in EFLAGS.
+/// The numbers of TF and RF in EFLAGS.
 const TRAP: u8 = 8;
-
-const INTERRUPTS: u8 = 9;
 
 const RESUME: u8 = 16;
 
 /// L0 to G3 of DR7 lie below this bit.
 const BREAKPOINTS: u32 = 0x100;
 
-/// Whether a bit is 1.
-fn has(number: u32, place: u8) -> bool
-    requires { place < 32 }
-    ensures { result ≡ bit number place }
-{
-    (number >> place) & 1 == 1
-}
-
-/// Real mode, and neither interrupts nor debugging.
+/// Real mode, and nothing debugged.
 #[tactic(auto, using(crate::proofs::Modes::modes))]
-pub(crate) fn is_plain_mode(regs: &Regs) -> bool
-    ensures own { result ≡ is_plain_mode regs.now }
-    ensures value { (flags : ℕ) → result ≡ is_plain_mode (whole regs.now flags) }
+pub(crate) fn is_covered(regs: &Regs) -> bool
+    ensures own { result ≡ is_covered regs.now }
+    ensures value { (flags : ℕ) → result ≡ is_covered (whole regs.now flags) }
 {
-    !has(regs.cr0, PROTECTION)
-        && !has(regs.eflags, TRAP)
-        && !has(regs.eflags, INTERRUPTS)
-        && !has(regs.eflags, RESUME)
-        && regs.dr7 % BREAKPOINTS == 0
+    !has(regs.cr0, PROTECTION) && !has(regs.eflags, TRAP) && regs.dr7 % BREAKPOINTS == 0
 }
 
-/// Runs an instruction, unless it is not built or faults, and then changes nothing. `back` is the EIP
-/// behind it.
+/// Runs an instruction, unless it faults, and then changes nothing. `back` is the EIP behind it.
 pub(crate) fn execute<L: Linear>(
     regs: &mut Regs,
     flags: &mut Flags,
@@ -57,38 +46,60 @@ pub(crate) fn execute<L: Linear>(
     back: u32,
 ) -> Option<Next>
     requires spelt { (bytes : List ℕ) × (big : Bool) × Spelt bytes big insn.now }
-    requires mode { IsTrue (is_plain_mode (whole regs.old flags.old)) }
-    requires unpaged { (L.seen lin.old).paging ≡ false }
-    requires unwatched { (L.seen lin.old).watch ≡ [] }
-    requires held { (L.seen lin.old).held ≡ [] }
+    requires mode { has_protection regs.old ≡ false }
+    requires plain { IsPlain (L.seen lin.old) }
     ensures passes { IfSome result (λ next. Passes L.pick insn.now (whole regs.old flags.old) back (L.seen lin.old)
         (whole regs.new flags.new) next (L.seen lin.new)) }
-    ensures refused { IfNone result (IsRefused L.pick insn.now (whole regs.old flags.old) back (L.seen lin.old)) }
+    ensures refused { IfNone result (Faults L.pick insn.now (whole regs.old flags.old) back (L.seen lin.old)) }
     ensures unchanged { IfNone result ((regs.new ≡ regs.old) × (flags.new ≡ flags.old) × (L.seen lin.new ≡ L.seen lin.old)) }
-    ensures held_new { (L.seen lin.new).held ≡ [] }
-    ensures rest { (L.seen lin.new).paging ≡ false }
-    ensures watch { (L.seen lin.new).watch ≡ [] }
-    ensures items { (L.seen lin.new).served ≡ (L.seen lin.old).served }
+    ensures plain_new { IsPlain (L.seen lin.new) }
+    ensures keeps { Keeps (L.seen lin.old) (L.seen lin.new) }
 {
     match run(regs, flags, lin, insn, back) {
-        Some(Ok(next)) => {
+        Ok(next) => {
             lin.commit();
             Some(next)
         }
-        Some(Err(_)) => {
+        Err(_) => {
             lin.discard();
             None
         }
-        None => None,
     }
 }
 
-/// Puts EIP behind an instruction, unless that set it or goes on.
-pub(crate) fn land(regs: &mut Regs, next: Next, back: u32)
-    ensures { (flags : ℕ) → whole regs.new flags ≡ landed next (whole regs.old flags) back }
+/// Whether an instruction leaves RF as it is.
+fn keeps_resume(op: Op, next: Next) -> bool
+    ensures { result ≡ keeps_resume op next }
+{
+    match op {
+        Op::Iret | Op::Popf => true,
+        _ => match next {
+            Next::Again | Next::Soft(_) | Next::Task(_) => true,
+            _ => false,
+        },
+    }
+}
+
+/// Puts EIP behind an instruction, unless that set it or goes on, and clears RF.
+#[tactic(auto, using(crate::proofs::Resumed::resumes))]
+pub(crate) fn land(regs: &mut Regs, op: Op, next: Next, back: u32)
+    ensures { (flags : ℕ) → whole regs.new flags ≡ resumed op next (landed next (whole regs.old flags) back) }
 {
     match next {
-        Next::Landed | Next::Again => {}
+        Next::Landed | Next::Again | Next::Soft(_) | Next::Task(_) => {}
         _ => regs.eip = back,
+    }
+    if !keeps_resume(op, next) {
+        regs.eflags = with_bit(regs.eflags, RESUME, false);
+    }
+}
+
+/// Whether NMIs stay masked behind an instruction: IRET lets them in again.
+pub(crate) fn masks(op: Op, masked: bool) -> bool
+    ensures { result ≡ masks op masked }
+{
+    match op {
+        Op::Iret => false,
+        _ => masked,
     }
 }

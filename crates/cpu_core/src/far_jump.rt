@@ -4,7 +4,8 @@ ghost use Rattle.std.specs.Prelude.{◌≡◌, ℕ, OnErr};
 ghost use Rattle.mdl_state.specs.State.{Mem};
 ghost use Rattle.mdl_state.specs.Serving.{Serve};
 ghost use Rattle.mdl_state.specs.Attempt.{tried};
-ghost use Rattle.mdl_state.specs.Registers.{with_code_selector};
+ghost use Rattle.mdl_state.specs.declared.Seg.TheVariants.{Cs};
+ghost use Rattle.mdl_cpu.specs.Loads.{with_selector};
 ghost use Rattle.mdl_step.specs.FarEffects.{far_jump_plan};
 ghost use Rattle.operands.specs.Whole.{whole, ran};
 
@@ -17,9 +18,9 @@ use seg_unit::segment;
 const CS: usize = 1;
 
 /// Loads CS as in real mode: the limit and the rights stay.
-#[tactic(auto, unfolding(mdl_state::specs::Registers::with_code_selector, mdl_state::specs::Registers::seg_of))]
+#[tactic(auto, unfolding(mdl_cpu::specs::Loads::with_selector, mdl_state::specs::Registers::with_seg, mdl_state::specs::Registers::seg_of))]
 fn set_code_selector(regs: &mut Regs, selector: u16)
-    ensures set { regs.new ≡ with_code_selector regs.old selector }
+    ensures set { regs.new ≡ with_selector regs.old Cs selector }
 {
     regs.seg[CS] = Hidden {
         sel: selector,
@@ -29,7 +30,7 @@ fn set_code_selector(regs: &mut Regs, selector: u16)
 }
 
 /// Jumps, unless the offset lies past the limit of CS.
-#[tactic(auto, unfolding(mdl_step::specs::FarEffects::far_jump_plan, mdl_state::specs::Registers::with_code_selector, mdl_state::specs::Registers::seg_of))]
+#[tactic(auto, unfolding(mdl_step::specs::FarEffects::far_jump_plan, mdl_cpu::specs::Loads::with_selector, mdl_state::specs::Registers::with_seg, mdl_state::specs::Registers::seg_of))]
 pub(crate) fn jump_far(regs: &mut Regs, insn: &Insn) -> Result<Next, Fault>
     ensures run { (flags : ℕ) (serve : Serve) (m : Mem) →
         (ran result (whole regs.new flags), m) ≡ tried serve 0 (far_jump_plan insn.now (whole regs.old flags)) m }

@@ -1,7 +1,7 @@
 //! The processor over any memory and any ports: the steps that are built, in real mode.
 //!
 //! The one contract used above: `Cpu::step` makes a step of the written machine for some choice, or
-//! says that none is built. Read `mdl_step/specs/Step.antt` first, then `specs/Machine.antt`.
+//! says that the next is not built. Read `mdl_step/specs/Step.antt` first, then `specs/Plain.antt`.
 #![tactic(auto)]
 
 mod boundary;

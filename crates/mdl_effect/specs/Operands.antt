@@ -1,12 +1,12 @@
 -- Operands of instructions, as plans read and write them. Manual, chapter 17.
-use Rattle.std.specs.Prelude.{ℕ, ◌+◌, ◌-◌, ◌%◌, Bool, true, false, if◌then◌else◌}
+use Rattle.std.specs.Prelude.{⊤, ℕ, ◌+◌, ◌-◌, ◌%◌, Bool, true, false, if◌then◌else◌}
 use Rattle.mdl_state.specs.declared.Size.{Size}
 use Rattle.mdl_state.specs.declared.Size.TheVariants.{B1, B2, B4}
 use Rattle.mdl_state.specs.declared.Seg.{Seg}
 use Rattle.mdl_state.specs.declared.Access.TheVariants.{Write}
 use Rattle.mdl_state.specs.declared.Regs.{Regs}
 use Rattle.mdl_state.specs.declared.Next.{Next}
-use Rattle.mdl_state.specs.declared.Next.TheVariants.{Follow}
+use Rattle.mdl_state.specs.declared.Next.TheVariants.{Follow, Soft, Task}
 use Rattle.mdl_state.specs.Bytes.{bound_of}
 use Rattle.mdl_state.specs.Registers.{reg_of, with_reg}
 use Rattle.mdl_state.specs.Attempt.{Plan, Done, Fail, Translate, Get, Hold, then_plan, checked}
@@ -29,6 +29,12 @@ pub record After : Type 0 where
   pub regs : Regs
   pub next : Next
   pub access : PortUse
+
+-- neither a software interrupt nor a task switch follows
+abbrev pub IsOrdinary : Next → Type 0
+IsOrdinary (Soft vector) = ⊥
+IsOrdinary (Task trap) = ⊥
+IsOrdinary _ = ⊤
 
 -- the instruction goes on behind itself
 abbrev pub follow : Regs → Plan After
