@@ -1,5 +1,5 @@
 -- What an instruction leaves is steady where each end of its plan is.
-use Rattle.std.proofs.Common.{◌≡◌, ◌×◌, ℕ, refl, sym, subst, ap, ◌∙◌}
+use Rattle.std.proofs.Common.{◌≡◌, ℕ, refl}
 use Rattle.std.specs.Prelude.{Result, Ok, Err, OnErr}
 use Rattle.mdl_state.specs.declared.Regs.{Regs}
 use Rattle.mdl_state.specs.declared.Fault.{Fault}
