@@ -11,4 +11,4 @@ mod sums;
 
 pub use decimal::{aaa, aad, aam, aas, daa, das};
 pub use products::{div, idiv, imul, mul};
-pub use sums::{add, dec, inc, logic, neg, sub};
+pub use sums::{add, bitwise, dec, difference, inc, logic, neg, sub, sum};

@@ -11,6 +11,15 @@ ghost use Rattle.mdl_num.specs.declared.status.Flag.TheVariants.{Stays};
 use mdl_num::{Alu, Flag, LogicOp, Status, bound, fits, low, of_result, settle, signed};
 use mdl_state::Size;
 
+/// The value of a sum.
+#[tactic(auto, unfolding(mdl_num::specs::Sums::sum_value))]
+pub fn sum(a: u32, b: u32, carry: bool, size: Size) -> u32
+    ensures value { result ≡ sum_value size a b carry }
+    ensures bound { result < bound_of size }
+{
+    low(a as u64 + b as u64 + carry as u64, size)
+}
+
 /// OF of a sum.
 #[tactic(auto, unfolding(mdl_num::specs::Sums::sum_overflows))]
 fn sum_overflow(a: u32, b: u32, carry: bool, size: Size) -> bool
@@ -39,7 +48,6 @@ fn after_sum(a: u32, b: u32, carry: bool, size: Size) -> Status
 }
 
 /// ADD, and ADC with the carry.
-#[tactic(auto, unfolding(mdl_num::specs::Sums::sum_value))]
 pub fn add(a: u32, b: u32, carry: bool, size: Size, flags: u32) -> Alu
     requires a { a < bound_of size }
     requires b { b < bound_of size }
@@ -48,7 +56,7 @@ pub fn add(a: u32, b: u32, carry: bool, size: Size, flags: u32) -> Alu
     ensures flags { result.flags ≡ flags_after (sum_status size a b carry) flags result.flags }
 {
     Alu {
-        value: low(a as u64 + b as u64 + carry as u64, size),
+        value: sum(a, b, carry, size),
         flags: settle(after_sum(a, b, carry, size), flags),
     }
 }
@@ -65,7 +73,7 @@ fn difference_overflow(a: u32, b: u32, borrow: bool, size: Size) -> bool
 
 /// The value of a difference.
 #[tactic(auto, unfolding(mdl_num::specs::Sums::difference_value))]
-fn difference(a: u32, b: u32, borrow: bool, size: Size) -> u32
+pub fn difference(a: u32, b: u32, borrow: bool, size: Size) -> u32
     requires b { b < bound_of size }
     ensures value { result ≡ difference_value size a b borrow }
     ensures bound { result < bound_of size }
@@ -157,7 +165,7 @@ pub fn neg(a: u32, size: Size, flags: u32) -> Alu
 
 /// AND, OR and XOR, bit by bit.
 #[tactic(auto, unfolding(mdl_num::specs::Sums::logic_value))]
-fn bitwise(op: LogicOp, a: u32, b: u32) -> u32
+pub fn bitwise(op: LogicOp, a: u32, b: u32) -> u32
     ensures { result ≡ logic_value op a b }
 {
     match op {

@@ -1,6 +1,6 @@
 //! Loads of segment registers.
 
-ghost use Rattle.std.specs.Prelude.{◌≡◌, ◌≤◌, ◌+◌, ◌*◌, false, length, OnErr};
+ghost use Rattle.std.specs.Prelude.{◌≡◌, ◌≤◌, ◌+◌, false, length, OnErr};
 ghost use Rattle.mdl_state.specs.declared.Seg.TheVariants.{Ss};
 ghost use Rattle.mdl_state.specs.Serving.{by_pick};
 ghost use Rattle.mdl_state.specs.Accesses.{Keeps, HasRoom};
@@ -10,32 +10,19 @@ ghost use Rattle.mdl_cpu.specs.Loads.{with_selector, load_plan, answered};
 
 use mdl_state::{Fault, Hidden, Regs, Seg};
 use mem_iface::Linear;
+use seg_unit::{segment, set_segment};
 
 /// A segment register with a selector that says by itself where the segment lies.
-fn at_selector(hidden: Hidden, sel: u16) -> Hidden
-    ensures { result ≡ record hidden { sel = sel; base = 16 * sel } }
-{
-    Hidden {
-        sel,
-        base: 16 * sel as u32,
-        limit: hidden.limit,
-        rights: hidden.rights,
-    }
-}
-
-/// Puts it in place.
-#[tactic(auto, unfolding(mdl_cpu::specs::Loads::with_selector, mdl_state::specs::Registers::seg_of))]
+#[tactic(auto, unfolding(mdl_cpu::specs::Loads::with_selector))]
 fn set_selector(regs: &mut Regs, seg: Seg, sel: u16)
     ensures { regs.new ≡ with_selector regs.old seg sel }
 {
-    match seg {
-        Seg::Es => regs.seg[0] = at_selector(regs.seg[0], sel),
-        Seg::Cs => regs.seg[1] = at_selector(regs.seg[1], sel),
-        Seg::Ss => regs.seg[2] = at_selector(regs.seg[2], sel),
-        Seg::Ds => regs.seg[3] = at_selector(regs.seg[3], sel),
-        Seg::Fs => regs.seg[4] = at_selector(regs.seg[4], sel),
-        Seg::Gs => regs.seg[5] = at_selector(regs.seg[5], sel),
-    }
+    let hidden = Hidden {
+        sel,
+        base: 16 * sel as u32,
+        ..segment(regs, seg)
+    };
+    set_segment(regs, seg, hidden);
 }
 
 /// ES, DS, FS or GS.

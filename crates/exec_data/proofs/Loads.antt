@@ -5,7 +5,7 @@ use Rattle.mdl_state.specs.declared.Regs.{Regs}
 use Rattle.mdl_state.specs.declared.Seg.{Seg}
 use Rattle.mdl_state.specs.declared.Fault.{Fault}
 use Rattle.mdl_state.specs.State.{Mem}
-use Rattle.mdl_state.specs.Registers.{seg_of}
+use Rattle.mdl_state.specs.Registers.{seg_of, with_seg}
 use Rattle.mdl_state.specs.Serving.{Serve, Outcome, Passed, Failed, NoStep}
 use Rattle.mdl_state.specs.Attempt.{tried}
 use Rattle.mdl_cpu.specs.Loads.{load_plan, with_selector, answered}
@@ -23,7 +23,7 @@ answered_packed (Err fault) r F m = refl
 
 loaded_packed : (serve : Serve) (r : Regs) (F : ℕ) (seg : Seg) (sel : ℕ) (m : Mem)
     → packed F (tried serve 0 (load_plan r seg sel) m) ≡ tried serve 0 (load_plan (whole r F) seg sel) m
-unfolding packed load_plan with_selector seg_of
+unfolding packed load_plan with_selector with_seg seg_of
 loaded_packed serve r F seg sel m = refl
 
 pub load_packed : (serve : Serve) (result : Result (Unit {0}) Fault) (old new : Regs) (F : ℕ) (seg : Seg) (sel : ℕ) (m n : Mem)

@@ -6,50 +6,20 @@ ghost use Rattle.mdl_state.specs.Serving.{by_pick};
 ghost use Rattle.mdl_state.specs.Accesses.{Keeps, HasRoom};
 ghost use Rattle.mdl_state.specs.Attempt.{tried};
 ghost use Rattle.mdl_num.specs.Flags.{flags_after};
-ghost use Rattle.mdl_num.specs.Sums.{sum_value, difference_value, logic_value, logic_status};
+ghost use Rattle.mdl_num.specs.Sums.{logic_value, logic_status};
 ghost use Rattle.lazy_flags.specs.Keeper.{with_status};
 ghost use Rattle.mdl_effect.specs.Operands.{follow};
 ghost use Rattle.mdl_effect.specs.Arithmetic.{binary, unary, binary_plan, compare_plan, unary_plan};
 ghost use Rattle.operands.specs.Whole.{whole, after, IsPlainOf, KeepsOther};
 ghost use Rattle.operands.specs.Memory.{IsMemoryOf};
 
+use alu_ops::{bitwise, difference, sum};
 use lazy_flags::{FlagOp, Flags};
 use mdl_insn::{Insn, Op};
-use mdl_num::{CF, LogicOp, bound, low};
+use mdl_num::{CF, LogicOp, bound};
 use mdl_state::{Fault, Regs, Size};
 use mem_iface::Linear;
 use operands::{open, set, value};
-
-/// The value of a sum.
-#[tactic(auto, unfolding(mdl_num::specs::Sums::sum_value))]
-fn sum(a: u32, b: u32, carry: bool, size: Size) -> u32
-    ensures value { result ≡ sum_value size a b carry }
-    ensures bound { result < bound_of size }
-{
-    low(a as u64 + b as u64 + carry as u64, size)
-}
-
-/// The value of a difference.
-#[tactic(auto, unfolding(mdl_num::specs::Sums::difference_value))]
-fn difference(a: u32, b: u32, borrow: bool, size: Size) -> u32
-    requires { b < bound_of size }
-    ensures value { result ≡ difference_value size a b borrow }
-    ensures bound { result < bound_of size }
-{
-    low(bound(size) + a as u64 - (b as u64 + borrow as u64), size)
-}
-
-/// The value of AND, OR and XOR.
-#[tactic(auto, unfolding(mdl_num::specs::Sums::logic_value))]
-fn bitwise(op: LogicOp, a: u32, b: u32) -> u32
-    ensures { result ≡ logic_value op a b }
-{
-    match op {
-        LogicOp::And => a & b,
-        LogicOp::Or => a | b,
-        LogicOp::Xor => a ^ b,
-    }
-}
 
 /// AND, OR and XOR.
 #[tactic(auto, using(operands::proofs::Statuses::statuses, crate::proofs::Logic::bounds))]

@@ -1,9 +1,8 @@
--- A bit that is no status flag's, set beside the kept flags, and the flags of a byte.
+-- A bit that is no status flag's, set beside the kept flags.
 use Rattle.std.proofs.Common.{◌≡◌, ◌≢◌, ℕ, ◌<◌, Bool, inl, inr, sym, ◌∙◌, ap, arith}
 use Rattle.std.specs.Int.{bit_at, from_bool}
 use Rattle.std.proofs.lemmas.Bool.{cases_eq}
-use Rattle.std.proofs.lemmas.Bool.Decides.{nat_tests}
-use Rattle.std.proofs.lemmas.Nat.Bits.{bit_at-lt, same_from_bits}
+use Rattle.std.proofs.lemmas.Nat.Bits.{same_from_bits}
 use Rattle.mdl_num.specs.Flags.{is_set, with_bit}
 use Rattle.mdl_num.specs.declared.status.TheConstants.{CF, PF, AF, ZF, SF, OF}
 use Rattle.mdl_num.proofs.Places.{bit_at-with_bit, bit_at-with_bit_other, from_bool-lt}
@@ -40,8 +39,3 @@ direction e F on =
     ∙ ap (λ x. copied OF F (copied SF F x)) (past ZF F _ b small (omega arith))
     ∙ ap (λ x. copied OF F x) (past SF F _ b small (omega arith))
     ∙ past OF F _ b small (omega arith)
-
--- a bit as a truth value, and as a bit again
-pub flag_of : (n k : ℕ) → from_bool (is_set n k) ≡ bit_at n k
-unfolding is_set
-flag_of n k = grind (arith, nat_tests, bit_at-lt n k)

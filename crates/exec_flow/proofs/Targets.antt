@@ -1,19 +1,18 @@
 -- Where branches lead, and what moving a register leaves.
-use Rattle.std.proofs.Common.{◌≡◌, ℕ, ◌+◌, ◌-◌, ◌%◌, ◌<◌, Bool, true, false, cond, List, length, refl, ap, arith}
+use Rattle.std.proofs.Common.{◌≡◌, ℕ, ◌+◌, ◌-◌, ◌%◌, Bool, true, false, cond, List, refl, ap}
 use Rattle.std.specs.Prelude.{nat_lt, slice_index, slice_set}
-use Rattle.std.proofs.lemmas.List.{get_or-set_same}
 use Rattle.mdl_state.specs.declared.Size.{Size}
 use Rattle.mdl_state.specs.declared.Size.TheVariants.{B1, B2, B4}
 use Rattle.mdl_state.specs.declared.Seg.{Seg}
 use Rattle.mdl_state.specs.declared.Hidden.{Hidden}
 use Rattle.mdl_state.specs.declared.Regs.{Regs}
 use Rattle.mdl_state.specs.Bytes.{bound_of}
-use Rattle.mdl_state.specs.Registers.{reg_of, with_reg, seg_of, seg_number, hidden_at, with_low, with_high, with_low_word}
+use Rattle.mdl_state.specs.Registers.{with_reg, seg_of, seg_number, hidden_at, with_low, with_high}
 use Rattle.mdl_state.specs.Attempt.{Plan}
 use Rattle.mdl_state.specs.AttemptLaws.{tried-then_plan}
 use Rattle.mdl_insn.specs.declared.instruction.Operand.{Operand}
 use Rattle.mdl_insn.specs.declared.instruction.Operand.TheVariants.{Rel}
-use Rattle.mdl_effect.specs.Operands.{After, address_size, reading}
+use Rattle.mdl_effect.specs.Operands.{After, reading}
 use Rattle.mdl_effect.specs.Jumps.{target_by}
 use Rattle.exec_flow.specs.Near.{is_relative, displacement_of}
 
@@ -43,16 +42,4 @@ code_kept r n B1 value seg = ap (λ s. hidden_at s (seg_number seg)) (either_seg
 code_kept r n B2 value seg = refl
 code_kept r n B4 value seg = refl
 
-low_again : (n value : ℕ) → value < 0x10000 → with_low_word n value % 0x10000 ≡ value
-low_again n value fits = omega arith
-
--- a count that is set is read back
-pub count_again : (r : Regs) (wide : Bool) (value : ℕ) → 1 < length r.gpr → value < bound_of (address_size wide)
-    → reg_of (with_reg r 1 (address_size wide) value) 1 (address_size wide) ≡ value
-unfolding reg_of with_reg
-count_again r true value long fits = get_or-set_same r.gpr 1 value 0 long
-count_again r false value long fits = rw (get_or-set_same r.gpr 1 (with_low_word (slice_index r.gpr 1) value) 0 long) (low_again (slice_index r.gpr 1) value fits)
-
 pub ruleset calls = (tried-then_plan, code_kept)
-
-pub ruleset loops = (near_target, code_kept, count_again)

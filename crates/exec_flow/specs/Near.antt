@@ -1,15 +1,11 @@
 -- Branches with a displacement, and pushes, as the opcode rows give them. Manual, chapter 17.
-use Rattle.std.specs.Prelude.{◌≡◌, ◌≢◌, ℕ, ◌+◌, ◌-◌, ◌%◌, Bool, true, false}
+use Rattle.std.specs.Prelude.{◌≡◌, ◌≢◌, ℕ, Bool, true, false}
 use Rattle.mdl_state.specs.declared.Size.TheVariants.{B1}
-use Rattle.mdl_state.specs.declared.Regs.{Regs}
-use Rattle.mdl_state.specs.Bytes.{bound_of}
 use Rattle.mdl_insn.specs.declared.instruction.Insn.{Insn}
 use Rattle.mdl_insn.specs.declared.instruction.Operand.{Operand}
 use Rattle.mdl_insn.specs.declared.instruction.Operand.TheVariants.{Rel}
 use Rattle.mdl_insn.specs.declared.mnemonics.Op.{Op}
 use Rattle.mdl_insn.specs.declared.mnemonics.Op.TheVariants as ops
-use Rattle.mdl_effect.specs.Operands.{address_size}
-use Rattle.mdl_effect.specs.Operands.{count_of}
 
 -- a displacement from behind the instruction
 abbrev pub is_relative : Operand → Bool
@@ -39,7 +35,3 @@ is_push _ = false
 pub record IsNear (insn : Insn) : Type 0 where
   pub branch : is_branch insn.op ≡ true → is_relative insn.a ≡ true
   pub push : is_push insn.op ≡ true → insn.size ≢ B1
-
--- CX or ECX less 1, modulo the address size
-abbrev pub fallen_count : Regs → Bool → ℕ
-fallen_count r wide = (count_of r wide + (bound_of (address_size wide) - 1)) % bound_of (address_size wide)

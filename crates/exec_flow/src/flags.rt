@@ -54,7 +54,7 @@ pub(crate) fn load_ah(regs: &mut Regs, flags: &Flags)
 }
 
 /// SAHF.
-#[tactic(auto, using(crate::proofs::Direction::flag_of), unfolding(mdl_effect::specs::FlagEffects::ah_to_flags_plan, mdl_num::specs::Flags::flags_after, mdl_num::specs::Flags::untouched_status))]
+#[tactic(auto, using(lazy_flags::proofs::Packing::bits), unfolding(mdl_effect::specs::FlagEffects::ah_to_flags_plan, mdl_num::specs::Flags::flags_after, mdl_num::specs::Flags::untouched_status))]
 pub(crate) fn store_ah(regs: &Regs, flags: &mut Flags)
     ensures { (serve : Serve) (m : Mem) → (followed (whole regs.now flags.new), m)
         ≡ tried serve 0 (ah_to_flags_plan (whole regs.now flags.old)) m }

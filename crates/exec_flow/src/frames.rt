@@ -3,11 +3,12 @@
 ghost use Rattle.std.specs.Prelude.{◌≡◌, ◌<◌, ◌≤◌, ◌+◌, ◌*◌, ℕ, length, OnOk, OnErr};
 ghost use Rattle.mdl_state.specs.declared.Size.TheVariants.{B1, B2};
 ghost use Rattle.mdl_state.specs.Bytes.{bound_of};
-ghost use Rattle.mdl_state.specs.Serving.{by_pick};
+ghost use Rattle.mdl_state.specs.State.{Mem};
+ghost use Rattle.mdl_state.specs.Serving.{Serve, by_pick};
 ghost use Rattle.mdl_state.specs.Accesses.{Keeps, HasRoom};
 ghost use Rattle.mdl_state.specs.Attempt.{tried};
 ghost use Rattle.mdl_cpu.specs.Loads.{answered};
-ghost use Rattle.mdl_effect.specs.StackEffects.{below_frame, copy_frames, push_frames, enter_plan, leave_plan};
+ghost use Rattle.mdl_effect.specs.StackEffects.{below_frame, copy_frames, push_frames, allowing_top, enter_plan, leave_plan};
 ghost use Rattle.mdl_effect.specs.Forms.{IsOf};
 ghost use Rattle.operands.specs.Whole.{whole, ran};
 
@@ -16,8 +17,10 @@ use mdl_num::{bound, low};
 use mdl_state::{Fault, Next, Regs, Seg, Size};
 use mem_iface::{Linear, bytes_of};
 use operands::{
-    FRAME, STACK, below_top, load, pop, push, reg, set_reg, set_top, stack_size, value,
+    FRAME, STACK, below_top, load, pop, push, reg, set_reg, set_top, stack_size, stack_top,
+    value,
 };
+use seg_unit::check;
 
 /// ENTER takes its level modulo this.
 const LEVELS: u32 = 32;
@@ -86,7 +89,17 @@ fn push_frames<L: Linear>(
     Ok(())
 }
 
-/// ENTER.
+/// ENTER ends here: the byte at the stack pointer must be one that SS allows to be written.
+#[tactic(auto, using(operands::proofs::Modes::modes))]
+fn allow_top(regs: &Regs) -> Result<Next, Fault>
+    ensures { (flags : ℕ) (serve : Serve) (m : Mem) → (ran result (whole regs.now flags), m)
+        ≡ tried serve 0 (allowing_top (whole regs.now flags)) m }
+{
+    check(regs, Seg::Ss, stack_top(regs), Size::B1, true)?;
+    Ok(Next::Follow)
+}
+
+/// ENTER. The new stack pointer is tested last.
 #[tactic(auto, using(mdl_state::specs::Rules::attempts), unfolding(mdl_effect::specs::StackEffects::enter_plan))]
 pub(crate) fn enter<L: Linear>(regs: &mut Regs, lin: &mut L, insn: &Insn) -> Result<Next, Fault>
     requires bytes { IsOf B2 insn.now.a }
@@ -107,8 +120,9 @@ pub(crate) fn enter<L: Linear>(regs: &mut Regs, lin: &mut L, insn: &Insn) -> Res
     let top = below_top(&moved, bytes);
     set_top(&mut moved, top);
     set_reg(&mut moved, FRAME, size, frame);
+    let next = allow_top(&moved)?;
     *regs = moved;
-    Ok(Next::Follow)
+    Ok(next)
 }
 
 /// LEAVE.

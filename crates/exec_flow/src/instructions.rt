@@ -18,7 +18,7 @@ use crate::calls::{call, return_near};
 use crate::flags::{load_ah, set_carry, set_direction, store_ah};
 use crate::frames::{enter, leave};
 use crate::jumps::{jump, jump_if};
-use crate::loops::{count_down, jump_if_none};
+use crate::loops::{jump_if_none, repeat};
 use crate::pops::{pop_operand, pop_registers};
 use crate::pushes::{is_segment, push_operand, push_registers};
 use lazy_flags::Flags;
@@ -72,9 +72,9 @@ pub(crate) fn run_branch(
 {
     match insn.op {
         Op::Jcc(number) => jump_if(number, regs, flags, insn, back),
-        Op::Loop => count_down(true, regs, insn, back),
-        Op::Loope => count_down(flags.get(ZF), regs, insn, back),
-        Op::Loopne => count_down(!flags.get(ZF), regs, insn, back),
+        Op::Loop => repeat(true, regs, insn, back),
+        Op::Loope => repeat(flags.get(ZF), regs, insn, back),
+        Op::Loopne => repeat(!flags.get(ZF), regs, insn, back),
         Op::Jcxz => jump_if_none(regs, insn, back),
         _ => unreachable!(),
     }

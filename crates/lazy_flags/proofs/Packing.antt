@@ -15,19 +15,22 @@ use Rattle.lazy_flags.specs.Keeper.{copied, with_status, operation_status, plain
 use Rattle.lazy_flags.specs.declared.operation.FlagOp.{FlagOp}
 use Rattle.lazy_flags.specs.declared.operation.FlagOp.TheVariants.{Add, AddCarry, Sub, SubBorrow, Logic, Inc, Dec, Plain}
 
-from_bool-is_set : (n k : ℕ) → from_bool (is_set n k) ≡ bit_at n k
+-- a bit as a truth value, and as a bit again
+pub from_bool-is_set : (n k : ℕ) → from_bool (is_set n k) ≡ bit_at n k
 unfolding is_set
 from_bool-is_set n k = grind (arith, nat_tests, bit_at-lt n k)
+
+pub ruleset bits = (from_bool-is_set)
 
 put_other : (k : ℕ) (f : Flag) (free n j : ℕ) → j ≢ k → bit_at (put k f free n) j ≡ bit_at n j
 put_other k (Tells b) free n j e = bit_at-with_bit_other n k (from_bool b) j (from_bool-lt b) e
 put_other k Undefined free n j e = bit_at-with_bit_other n k (bit_at free k) j (bit_at-lt free k) e
 put_other k Stays free n j e = refl
 
-copied_other : (k from n j : ℕ) → j ≢ k → bit_at (copied k from n) j ≡ bit_at n j
+pub copied_other : (k from n j : ℕ) → j ≢ k → bit_at (copied k from n) j ≡ bit_at n j
 copied_other k from n j e = bit_at-with_bit_other n k (from_bool (is_set from k)) j (from_bool-lt (is_set from k)) e
 
-copied_own : (k from n : ℕ) → bit_at (copied k from n) k ≡ bit_at from k
+pub copied_own : (k from n : ℕ) → bit_at (copied k from n) k ≡ bit_at from k
 copied_own k from n = bit_at-with_bit n k (from_bool (is_set from k)) (from_bool-lt (is_set from k)) ∙ from_bool-is_set from k
 
 put_own : (k : ℕ) (f : Flag) (free n : ℕ) (b : Bool) → f ≡ Tells b → bit_at (put k f free n) k ≡ from_bool b

@@ -8,12 +8,13 @@ use Rattle.mdl_state.specs.declared.Size.{Size}
 use Rattle.mdl_state.specs.Registers.{seg_of}
 use Rattle.mdl_cpu.specs.Access.{legal}
 use Rattle.mdl_cpu.specs.Stack.{stack_size}
+use Rattle.mdl_cpu.specs.SystemFlags.{VM}
 use Rattle.lazy_flags.specs.Keeper.{with_status}
 use Rattle.operands.specs.Whole.{whole}
-use Rattle.operands.proofs.Statuses.{other_bit}
+use Rattle.operands.proofs.Statuses.{kept_bit, own_flags}
 
-virtual_bit : (e F : ℕ) → bit_at (with_status e F) 17 ≡ bit_at e 17
-virtual_bit e F = other_bit e F 17 (omega arith) (omega arith) (omega arith) (omega arith) (omega arith) (omega arith)
+virtual_bit : (e F : ℕ) → bit_at (with_status e F) VM ≡ bit_at e VM
+virtual_bit e F = kept_bit e F VM (omega arith) (omega arith)
 
 -- the kept flags count in no check of an access
 pub legal_kept : (r : Regs) (F : ℕ) (seg : Seg) (offset : ℕ) (size : Size) (write : Bool) → legal (whole r F) seg offset size write ≡ legal r seg offset size write
@@ -26,3 +27,7 @@ unfolding seg_of
 stack_size_kept r F = rw (virtual_bit r.eflags F) refl
 
 pub ruleset modes = (legal_kept, stack_size_kept)
+
+-- registers whose flags are whole
+pub whole_own : (r : Regs) → whole r r.eflags ≡ r
+whole_own r = rw (own_flags r.eflags) refl

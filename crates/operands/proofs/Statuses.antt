@@ -15,17 +15,7 @@ use Rattle.mdl_num.proofs.Places.{bit_at-with_bit, bit_at-with_bit_other, from_b
 use Rattle.mdl_num.proofs.FlagLemmas.{bit_at-flags_after}
 use Rattle.lazy_flags.specs.Keeper.{copied, with_status, operation_status}
 use Rattle.lazy_flags.specs.declared.operation.FlagOp.TheVariants.{Add, AddCarry, Sub, SubBorrow, Logic, Inc, Dec}
-use Rattle.lazy_flags.proofs.Packing.{with_status-operation, with_status-increment, with_status-decrement}
-
-from_bool-is_set : (n k : ℕ) → from_bool (is_set n k) ≡ bit_at n k
-unfolding is_set
-from_bool-is_set n k = grind (arith, nat_tests, bit_at-lt n k)
-
-copied_own : (k from n : ℕ) → bit_at (copied k from n) k ≡ bit_at from k
-copied_own k from n = bit_at-with_bit n k (from_bool (is_set from k)) (from_bool-lt (is_set from k)) ∙ from_bool-is_set from k
-
-copied_other : (k from n j : ℕ) → j ≢ k → bit_at (copied k from n) j ≡ bit_at n j
-copied_other k from n j e = bit_at-with_bit_other n k (from_bool (is_set from k)) j (from_bool-lt (is_set from k)) e
+use Rattle.lazy_flags.proofs.Packing.{from_bool-is_set, copied_own, copied_other, with_status-operation, with_status-increment, with_status-decrement}
 
 -- ---- the bits of packed flags
 
@@ -62,6 +52,14 @@ unfolding with_status
 other_bit e F j c p a z n o = copied_other OF F _ j o ∙ copied_other SF F _ j n ∙ copied_other ZF F _ j z
     ∙ copied_other AF F _ j a ∙ copied_other PF F _ j p ∙ copied_other CF F _ j c
 
+-- so is one above SF that is not OF
+pub kept_bit : (e F j : ℕ) → SF < j → j ≢ OF → bit_at (with_status e F) j ≡ bit_at e j
+kept_bit e F j high o = other_bit e F j (omega (arith, high)) (omega (arith, high)) (omega (arith, high)) (omega (arith, high)) (omega (arith, high)) o
+
+pub kept_flag : (e F j : ℕ) → SF < j → j ≢ OF → is_set (with_status e F) j ≡ is_set e j
+unfolding is_set
+kept_flag e F j high o = rw (kept_bit e F j high o) refl
+
 same_flags : (x y : ℕ) → bit_at x CF ≡ bit_at y CF → bit_at x PF ≡ bit_at y PF → bit_at x AF ≡ bit_at y AF
     → bit_at x ZF ≡ bit_at y ZF → bit_at x SF ≡ bit_at y SF → bit_at x OF ≡ bit_at y OF
     → ((j : ℕ) → j ≢ CF → j ≢ PF → j ≢ AF → j ≢ ZF → j ≢ SF → j ≢ OF → bit_at x j ≡ bit_at y j) → x ≡ y
@@ -95,6 +93,11 @@ packed_again e F G = same_flags _ _
     (adjust_bit (with_status e F) G ∙ sym (adjust_bit e G)) (zero_bit (with_status e F) G ∙ sym (zero_bit e G))
     (sign_bit (with_status e F) G ∙ sym (sign_bit e G)) (overflow_bit (with_status e F) G ∙ sym (overflow_bit e G))
     (λ j c p a z n o. other_bit (with_status e F) G j c p a z n o ∙ other_bit e F j c p a z n o ∙ sym (other_bit e G j c p a z n o))
+
+-- flags that are packed into themselves
+pub own_flags : (e : ℕ) → with_status e e ≡ e
+own_flags e = same_flags _ _ (carry_bit e e) (parity_bit e e) (adjust_bit e e) (zero_bit e e) (sign_bit e e) (overflow_bit e e)
+    (λ j c p a z n o. other_bit e e j c p a z n o)
 
 -- EFLAGS as an operation leaves it is what its flags make, packed into EFLAGS as it was
 pub unpacked : (s : Status) (e F G : ℕ) → G ≡ flags_after s (with_status e F) G → with_status e (with_status 0 G) ≡ G

@@ -2,11 +2,11 @@
 //!
 //! The executing crates stand on it. Each call is a plan of the written machine, tried over any
 //! memory, on the registers with the status flags packed into EFLAGS, whatever those are. Read
-//! `specs/Whole.antt` first, then `Operands.antt` and `Stack.antt` of `mdl_step`.
+//! `specs/Whole.antt` first, then `Operands.antt` of `mdl_effect` and `Stack.antt` of `mdl_cpu`.
 #![tactic(auto)]
 
-mod address_sizes;
 mod conditions;
+mod counts;
 mod faults;
 mod flags;
 mod memory;
@@ -15,8 +15,8 @@ mod plain;
 mod registers;
 mod stack;
 
-pub use address_sizes::address_size;
 pub use conditions::condition;
+pub use counts::{address_size, count_down, count_of};
 pub use faults::{general_protection, no_such};
 pub use flags::{DF, keep};
 pub use memory::{load, load_part, open_at, store};

@@ -15,15 +15,15 @@ use mdl_state::{Access, Fault, Place, Regs, Seg, Size};
 use mem_iface::Linear;
 use seg_unit::{check, check_part, who};
 
-/// The linear address of an access, or its fault.
+/// The linear address of a write, or its fault.
 #[tactic(auto, using(crate::proofs::Modes::modes))]
-fn checked(regs: &Regs, seg: Seg, offset: u32, size: Size, write: bool) -> Result<u32, Fault>
-    ensures { (flags : ℕ) → result ≡ legal (whole regs.now flags) seg offset size write }
+fn checked(regs: &Regs, seg: Seg, offset: u32, size: Size) -> Result<u32, Fault>
+    ensures { (flags : ℕ) → result ≡ legal (whole regs.now flags) seg offset size true }
 {
-    check(regs, seg, offset, size, write)
+    check(regs, seg, offset, size, true)
 }
 
-/// The same so many bytes behind an offset.
+/// The linear address of a read so many bytes behind an offset, or its fault.
 #[tactic(auto, using(crate::proofs::Modes::modes))]
 fn checked_part(regs: &Regs, seg: Seg, offset: u32, behind: u32, size: Size) -> Result<u32, Fault>
     ensures { (flags : ℕ) → result ≡ legal (whole regs.now flags) seg (offset + behind) size false }
@@ -32,6 +32,7 @@ fn checked_part(regs: &Regs, seg: Seg, offset: u32, behind: u32, size: Size) -> 
 }
 
 /// A number of a segment.
+#[tactic(auto, using(crate::proofs::Modes::modes))]
 pub fn load<L: Linear>(
     regs: &Regs,
     lin: &mut L,
@@ -45,8 +46,7 @@ pub fn load<L: Linear>(
     ensures keeps { Keeps (L.seen lin.old) (L.seen lin.new) }
     ensures held { (L.seen lin.new).held ≡ (L.seen lin.old).held }
 {
-    let at = checked(regs, seg, offset, size, false)?;
-    lin.read(at, size, who(regs))
+    seg_unit::load(regs, lin, seg, offset, size)
 }
 
 /// A number of a segment so many bytes behind an offset.
@@ -69,6 +69,7 @@ pub fn load_part<L: Linear>(
 }
 
 /// A number put into a segment.
+#[tactic(auto, using(crate::proofs::Modes::modes))]
 pub fn store<L: Linear>(
     regs: &Regs,
     lin: &mut L,
@@ -85,9 +86,7 @@ pub fn store<L: Linear>(
     ensures room { OnOk result (length (L.seen lin.new).held ≡ length (L.seen lin.old).held + bytes_of size) }
     ensures refused { OnErr result ((L.seen lin.new).held ≡ (L.seen lin.old).held) }
 {
-    let at = checked(regs, seg, offset, size, true)?;
-    lin.write(at, size, value, who(regs))?;
-    Ok(())
+    seg_unit::store(regs, lin, seg, offset, size, value)
 }
 
 /// The place of a number of a segment that is read and then written.
@@ -106,7 +105,7 @@ pub fn open_at<L: Linear>(
     ensures keeps { Keeps (L.seen lin.old) (L.seen lin.new) }
     ensures held { (L.seen lin.new).held ≡ (L.seen lin.old).held }
 {
-    let at = checked(regs, seg, offset, size, true)?;
+    let at = checked(regs, seg, offset, size)?;
     let place = lin.translate(at, size, Access::Write(who(regs)))?;
     Ok(place)
 }

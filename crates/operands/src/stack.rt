@@ -8,14 +8,13 @@ ghost use Rattle.mdl_state.specs.Attempt.{tried};
 ghost use Rattle.mdl_cpu.specs.Loads.{answered};
 ghost use Rattle.mdl_cpu.specs.Stack.{stack_size, stack_top, with_top, above_top, below_top, push_plan, pop_plan};
 ghost use Rattle.operands.specs.Whole.{whole, KeepsOther};
-ghost use Rattle.operands.specs.Stack.{popped};
+ghost use Rattle.seg_unit.specs.Stack.{popped};
 
 use crate::memory::{load, store};
 use crate::registers::{STACK, reg, set_reg};
 use mdl_num::{bound, low};
 use mdl_state::{Fault, Regs, Seg, Size};
 use mem_iface::{Linear, bytes_of};
-use seg_unit::{is_big, is_protected, segment};
 
 /// The size of the stack pointer: that of ESP or of SP.
 #[tactic(auto, using(crate::proofs::Modes::modes))]
@@ -24,11 +23,7 @@ pub fn stack_size(regs: &Regs) -> Size
     ensures value { (flags : ℕ) → result ≡ stack_size (whole regs.now flags) }
     ensures least { 2 ^ 16 ≤ bound_of result }
 {
-    if is_protected(regs) && is_big(&segment(regs, Seg::Ss)) {
-        Size::B4
-    } else {
-        Size::B2
-    }
+    seg_unit::stack_size(regs)
 }
 
 /// The stack pointer.

@@ -1,16 +1,21 @@
-//! Effective addresses, and which accesses a segment allows.
+//! Effective addresses, which accesses a segment allows, numbers in memory, and the stack.
 //!
-//! The one contract used above: `address` is the written offset of a memory operand, and `check`
-//! answers the linear address of an access or its fault. Read `mdl_cpu/specs/Access.antt` first.
+//! The one contract used above: `address` is the written offset of a memory operand, `check`
+//! answers the linear address of an access or its fault, and `load`, `store`, `push` and `pop` are
+//! the written plans over any memory. Read `mdl_cpu/specs/Access.antt` first, then `Stack.antt`.
 #![tactic(auto)]
 
 mod addresses;
 mod checks;
+mod memory;
 mod segments;
+mod stack;
 
 pub use addresses::{address, cut};
 pub use checks::{check, check_part};
-pub use segments::{is_big, is_protected, segment, who};
+pub use memory::{load, store};
+pub use segments::{is_big, is_protected, segment, set_segment, who};
+pub use stack::{pop, push, stack_size};
 
 #[cfg(test)]
 mod tests;

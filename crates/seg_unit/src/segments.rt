@@ -1,7 +1,7 @@
 //! Segment registers, and the mode that says how they count.
 
 ghost use Rattle.std.specs.Prelude.{◌≡◌, true};
-ghost use Rattle.mdl_state.specs.Registers.{seg_of};
+ghost use Rattle.mdl_state.specs.Registers.{seg_of, with_seg};
 ghost use Rattle.mdl_state.specs.Bytes.{bit};
 ghost use Rattle.mdl_cpu.specs.Access.{is_allowed};
 ghost use Rattle.mdl_cpu.specs.Segments.{is_protected, who_of};
@@ -39,6 +39,21 @@ pub fn segment(regs: &Regs, seg: Seg) -> Hidden
         Seg::Ds => regs.seg[3],
         Seg::Fs => regs.seg[4],
         Seg::Gs => regs.seg[5],
+    }
+}
+
+/// Sets a segment register with its hidden part.
+#[tactic(auto, unfolding(mdl_state::specs::Registers::with_seg))]
+pub fn set_segment(regs: &mut Regs, seg: Seg, hidden: Hidden)
+    ensures { regs.new ≡ with_seg regs.old seg hidden }
+{
+    match seg {
+        Seg::Es => regs.seg[0] = hidden,
+        Seg::Cs => regs.seg[1] = hidden,
+        Seg::Ss => regs.seg[2] = hidden,
+        Seg::Ds => regs.seg[3] = hidden,
+        Seg::Fs => regs.seg[4] = hidden,
+        Seg::Gs => regs.seg[5] = hidden,
     }
 }
 

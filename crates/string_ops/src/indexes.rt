@@ -29,7 +29,7 @@ pub(crate) fn destination_index(regs: &Regs, wide: bool) -> u32
 }
 
 /// An index behind a number of this size, or before it where DF is 1.
-#[tactic(auto, using(crate::proofs::Direction::direction))]
+#[tactic(auto, using(operands::proofs::Statuses::kept_flag))]
 fn stepped(regs: &Regs, wide: bool, size: Size, index: u32) -> u32
     ensures value { (flags : ℕ) → result ≡ stepped (whole regs.now flags) wide size index }
     ensures bound { result < bound_of (address_size wide) }

@@ -1,42 +1,20 @@
 //! Repeats: the count, and what ends them.
 
-ghost use Rattle.std.specs.Prelude.{◌≡◌, ◌<◌, ℕ, true, OnErr};
-ghost use Rattle.mdl_state.specs.Bytes.{bound_of};
+ghost use Rattle.std.specs.Prelude.{◌≡◌, true, OnErr};
 ghost use Rattle.mdl_state.specs.Serving.{by_pick};
 ghost use Rattle.mdl_state.specs.Accesses.{Keeps, HasRoom};
 ghost use Rattle.mdl_state.specs.Attempt.{tried};
 ghost use Rattle.mdl_insn.specs.declared.instruction.Rep.TheVariants.{Equal};
-ghost use Rattle.mdl_effect.specs.Operands.{address_size};
-ghost use Rattle.mdl_effect.specs.Operands.{count_of, counted_down};
-ghost use Rattle.mdl_effect.specs.StringEffects.{compares, is_wanted, goes_on, repeating};
-ghost use Rattle.mdl_effect.specs.StringEffects.{runs_string};
-ghost use Rattle.operands.specs.Whole.{whole, ran, KeepsOther};
+ghost use Rattle.mdl_effect.specs.StringEffects.{runs_string, compares, is_wanted, goes_on, repeating};
+ghost use Rattle.operands.specs.Whole.{whole, ran};
 
 use crate::strings::iterate;
 use lazy_flags::Flags;
 use mdl_insn::{Insn, Op, Rep};
-use mdl_num::{ZF, bound, low};
+use mdl_num::ZF;
 use mdl_state::{Fault, Next, Regs};
 use mem_iface::Linear;
-use operands::{COUNT, address_size, reg, set_reg};
-
-/// CX or ECX.
-fn count_of(regs: &Regs, wide: bool) -> u32
-    ensures value { (flags : ℕ) → result ≡ count_of (whole regs.now flags) wide }
-    ensures bound { result < bound_of (address_size wide) }
-{
-    reg(regs, COUNT, address_size(wide))
-}
-
-/// One less of it, modulo the address size.
-fn count_down(regs: &mut Regs, wide: bool)
-    ensures value { (flags : ℕ) → whole regs.new flags ≡ counted_down (whole regs.old flags) wide }
-    ensures kept { KeepsOther regs.old regs.new }
-{
-    let size = address_size(wide);
-    let count = low(count_of(regs, wide) as u64 + (bound(size) - 1), size);
-    set_reg(regs, COUNT, size, count);
-}
+use operands::{count_down, count_of};
 
 /// Whether the instruction compares.
 fn compares(op: Op) -> bool
