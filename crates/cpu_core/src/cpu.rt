@@ -145,7 +145,8 @@ impl<L: Linear, P: Ports> Cpu<L, P> {
     /// Makes a step of the written machine, for some choice whose items meet each policy that those of
     /// the memory meet. Answers false where the next step is not built, and then changes nothing.
     ///
-    /// The line A20 of the memory is that of the ports, before it and behind it.
+    /// The line A20 of the memory is that of the ports, before it and behind it. Paging is off in each
+    /// step that is built.
     pub fn step(&mut self) -> bool
         requires steps { self.old.state.core.steps < 2 ^ 64 - 1 }
         requires a20 { P.gate self.old.board ≡ self.old.state.mem.physical.a20 }
@@ -153,6 +154,7 @@ impl<L: Linear, P: Ports> Cpu<L, P> {
         ensures count { OnTrue result (self.new.state.core.steps ≡ self.old.state.core.steps + 1) }
         ensures unbuilt { OnFalse result ((policy : Policy) → Meets L.pick policy → IsUnbuilt (rules_of P.Ports) policy self.old) }
         ensures unchanged { OnFalse result (self.new ≡ self.old) }
+        ensures unpaged { self.old.state.mem.paging ≡ false }
         ensures a20 { P.gate self.new.board ≡ self.new.state.mem.physical.a20 }
     {
         let wants = self.ports.wants_interrupt();

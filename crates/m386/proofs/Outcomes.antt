@@ -8,11 +8,11 @@ use Rattle.host_io.specs.declared.host.Slot.{Slot}
 use Rattle.host_io.specs.declared.host.Slot.TheVariants.{In, Out}
 use Rattle.host_io.specs.Slots.{SameBut, WasOpened}
 use Rattle.host_io.specs.Transfers.{IsWhole, AppendsPrefix}
-use Rattle.mdl_state.specs.State.{State}
+use Rattle.mem_iface.specs.declared.ports.NoPorts.{NoPorts}
+use Rattle.mdl_state.specs.Machine.{Machine}
 use Rattle.mdl_state.specs.Memory.{IsRomLength}
-use Rattle.mdl_state.specs.Boot.{boot}
 use Rattle.mdl_step.specs.Run.{ReachesUnbuilt}
-use Rattle.mdl_state.specs.Policy.{meets_any}
+use Rattle.mdl_state.specs.Policy.{meets_plain}
 use Rattle.mdl_step.specs.RunLaws.{StepsFor, counted_walks}
 use Rattle.mdl_step.specs.Report.{report_text}
 use Rattle.m386.specs.declared.refusals.Refusal.{Refusal}
@@ -20,6 +20,7 @@ use Rattle.m386.specs.declared.refusals.Refusal.TheVariants as refusals
 use Rattle.m386.specs.declared.status.Status.{Status}
 use Rattle.m386.specs.declared.status.Status.TheVariants.{Done, Memory}
 use Rattle.m386.specs.Words.{RunJob, DisJob, Command, ToRun, ToList, IsRun, IsDis, IsNumbered, steps_option, Matched, NoneMatched, rom_path}
+use Rattle.m386.specs.Powered.{no_board, unmoved, powered}
 use Rattle.m386.specs.Headline.{Headline}
 use Rattle.m386.specs.Listed.{Listed}
 use Rattle.m386.specs.Refusals.{status_of, IsLength, IsRomWrong, IsStopped, IsReportCut, IsUnbuilt}
@@ -54,19 +55,19 @@ one_run words j k m n =
 -- ---- runs
 
 -- what a run that is not built says of the run that is asked for
-unbuilt_same : (words : List (List ℕ)) (left : Option (List ℕ)) (job asked : RunJob) (steps byte : ℕ) (rom : List ℕ) → IsStopped job left steps byte → IsRun words job → IsRun words asked → left ≡ Some rom → ReachesUnbuilt meets_any (boot 4 rom) [] asked.steps
+unbuilt_same : (words : List (List ℕ)) (left : Option (List ℕ)) (job asked : RunJob) (steps byte : ℕ) (rom : List ℕ) → IsStopped job left steps byte → IsRun words job → IsRun words asked → left ≡ Some rom → ReachesUnbuilt no_board unmoved [] meets_plain (powered rom) asked.steps
 unbuilt_same words left job asked steps byte rom stopped is other told =
     let same : stopped.rom ≡ rom = subst (λ (l : Option (List ℕ)). IsWhole l stopped.rom) told stopped.whole in
-    subst (λ (j : RunJob). ReachesUnbuilt meets_any (boot 4 rom) [] j.steps) (one_run words job asked is other)
-    (subst (λ (r : List ℕ). ReachesUnbuilt meets_any (boot 4 r) [] job.steps) same stopped.at.reaches)
+    subst (λ (j : RunJob). ReachesUnbuilt no_board unmoved [] meets_plain (powered rom) j.steps) (one_run words job asked is other)
+    (subst (λ (r : List ℕ). ReachesUnbuilt no_board unmoved [] meets_plain (powered r) job.steps) same stopped.at.reaches)
 
 -- a run of a ROM from boot
-pub record IsMade (left : Option (List ℕ)) (job : RunJob) (rom : List ℕ) (last : State) : Type 0 where
+pub record IsMade (left : Option (List ℕ)) (job : RunJob) (rom : List ℕ) (last : Machine NoPorts) : Type 0 where
   pub whole : IsWhole left rom
   pub size : IsRomLength (length rom)
-  pub made : StepsFor meets_any job.steps [] (boot 4 rom) last
+  pub made : StepsFor no_board unmoved [] meets_plain job.steps (powered rom) last
 
-pub headline_of : (words : List (List ℕ)) (left before now : Option (List ℕ)) (rom_path report_path : Option (Option (List ℕ))) (job : RunJob) (rom : List ℕ) (last : State) → IsRun words job → IsMade left job rom last → Appends before now (report_text last last.mem.walks) → WasOpened rom_path job.path → WasOpened report_path [] → Headline words left before now rom_path report_path
+pub headline_of : (words : List (List ℕ)) (left before now : Option (List ℕ)) (rom_path report_path : Option (Option (List ℕ))) (job : RunJob) (rom : List ℕ) (last : Machine NoPorts) → IsRun words job → IsMade left job rom last → Appends before now (report_text last.state last.state.mem.walks) → WasOpened rom_path job.path → WasOpened report_path [] → Headline words left before now rom_path report_path
 headline_of words left before now rom_path report_path job rom last matched m report rom_opened report_opened = record {
   job = job;
   matched = matched;
@@ -76,13 +77,13 @@ headline_of words left before now rom_path report_path job rom last matched m re
   choices = m.made.choices;
   last = last;
   as_many = m.made.count;
-  run = (refl, m.made.ran);
-  report = subst (λ (w : ℕ). Appends before now (report_text last w)) (m.made.walks ∙ counted_walks m.made.choices) report;
+  run = m.made.ran;
+  report = subst (λ (w : ℕ). Appends before now (report_text last.state w)) (m.made.walks ∙ counted_walks m.made.choices) report;
   rom_opened = rom_opened;
   report_opened = report_opened;
 }
 
-pub report_cut : (left before now : Option (List ℕ)) (job : RunJob) (rom : List ℕ) (last : State) → IsMade left job rom last → AppendsPrefix before now (report_text last last.mem.walks) → IsReportCut job left before now
+pub report_cut : (left before now : Option (List ℕ)) (job : RunJob) (rom : List ℕ) (last : Machine NoPorts) → IsMade left job rom last → AppendsPrefix before now (report_text last.state last.state.mem.walks) → IsReportCut job left before now
 report_cut left before now job rom last m report = record {
   rom = rom;
   whole = m.whole;
@@ -90,8 +91,8 @@ report_cut left before now job rom last m report = record {
   choices = m.made.choices;
   last = last;
   as_many = m.made.count;
-  run = (refl, m.made.ran);
-  report = subst (λ (w : ℕ). AppendsPrefix before now (report_text last w)) (m.made.walks ∙ counted_walks m.made.choices) report;
+  run = m.made.ran;
+  report = subst (λ (w : ℕ). AppendsPrefix before now (report_text last.state w)) (m.made.walks ∙ counted_walks m.made.choices) report;
 }
 
 -- ---- what is done
@@ -151,7 +152,7 @@ completed words left before now f g h asked rom (refusals.Unbuilt steps byte) st
 completed words left before now f g h asked rom refusals.Cut status e is matched told size calm same later built =
     absurd (calm (Out Report, omega (arith, later, e.2.0.rose)))
 
-pub run_is_built : (words : List (List ℕ)) (left : Option (List ℕ)) (asked : RunJob) (rom : List ℕ) → IsRun words asked → left ≡ Some rom → ¬ (ReachesUnbuilt meets_any (boot 4 rom) [] asked.steps) → (command : Command) (steps byte : ℕ) → Matched words command → IsUnbuilt command left steps byte → ⊥
+pub run_is_built : (words : List (List ℕ)) (left : Option (List ℕ)) (asked : RunJob) (rom : List ℕ) → IsRun words asked → left ≡ Some rom → ¬ (ReachesUnbuilt no_board unmoved [] meets_plain (powered rom) asked.steps) → (command : Command) (steps byte : ℕ) → Matched words command → IsUnbuilt command left steps byte → ⊥
 run_is_built words left asked rom is told built (ToRun job) steps byte matched unbuilt = built (unbuilt_same words left job asked steps byte rom unbuilt matched is told)
 run_is_built words left asked rom is told built (ToList job) steps byte matched unbuilt = unbuilt
 

@@ -1,3 +1,4 @@
+pub mod Powered
 pub mod Words
 pub mod Headline
 pub mod Listed

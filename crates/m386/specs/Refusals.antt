@@ -1,5 +1,5 @@
 -- The refusals: the line, the status and the cause of each.
-use Rattle.std.specs.Prelude.{◌≡◌, ◌+◌, ⊤, ℕ, List, [], ◌++◌, length, min, Option, None, Some, codes}
+use Rattle.std.specs.Prelude.{◌≡◌, ◌+◌, ⊤, ℕ, false, List, [], ◌++◌, length, min, Option, None, Some, codes}
 use Rattle.std.specs.Fmt.{decimal}
 use Rattle.host_io.specs.declared.host.InSlot.TheVariants.{Rom, Disk, Script, Commands}
 use Rattle.host_io.specs.declared.host.OutSlot.TheVariants.{Report, Mem, Save}
@@ -8,18 +8,23 @@ use Rattle.host_io.specs.declared.host.Slot.TheVariants.{In, Out}
 use Rattle.host_io.specs.Causes.{Rose}
 use Rattle.host_io.specs.Slots.{SameBut}
 use Rattle.host_io.specs.Transfers.{IsWhole, AppendsPrefix}
-use Rattle.mdl_state.specs.State.{State, Choice}
-use Rattle.mdl_state.specs.Memory.{IsRomLength}
-use Rattle.mdl_state.specs.Boot.{boot}
-use Rattle.mdl_state.specs.Policy.{meets_any}
+use Rattle.mem_iface.specs.declared.ports.NoPorts.{NoPorts}
+use Rattle.mdl_state.specs.declared.Regs.{Regs}
+use Rattle.mdl_state.specs.declared.Seg.TheVariants.{Cs}
+use Rattle.mdl_state.specs.State.{Physical, Choice}
+use Rattle.mdl_state.specs.Machine.{Machine}
+use Rattle.mdl_state.specs.Registers.{seg_of}
+use Rattle.mdl_state.specs.Memory.{IsRomLength, byte_at}
+use Rattle.mdl_state.specs.Policy.{meets_plain}
+use Rattle.mdl_cpu.specs.Access.{linear_of}
 use Rattle.mdl_step.specs.Run.{Run, ReachesUnbuilt, walk_count}
-use Rattle.mdl_step.specs.Step.{code_byte}
 use Rattle.mdl_step.specs.Report.{report_text}
 use Rattle.mdl_insn.specs.Text.{hex}
 use Rattle.m386.specs.declared.refusals.Refusal.{Refusal}
 use Rattle.m386.specs.declared.refusals.Refusal.TheVariants as refusals
 use Rattle.m386.specs.declared.status.Status.{Status}
 use Rattle.m386.specs.declared.status.Status.TheVariants as statuses
+use Rattle.m386.specs.Powered.{no_board, unmoved, powered}
 use Rattle.m386.specs.Words.{RunJob, DisJob, Command, ToRun, ToList}
 use Rattle.m386.specs.Lines.{AppendsListingPrefix}
 
@@ -83,23 +88,28 @@ pub record OnlyRose (slot : Slot) (before now : Slot → ℕ) : Type 0 where
   pub rose : Rose (before slot) (now slot)
   pub others : SameBut slot before now
 
--- some run from a state ends after so many steps, below the bound, where this byte stands at CS:EIP and the next step is not built
-pub record IsUnbuiltAt (s : State) (bound steps byte : ℕ) : Type 0 where
-  pub reaches : ReachesUnbuilt meets_any s [] bound
+-- the byte at CS:EIP while paging is off, where a linear address is the physical one
+unfoldable pub code_byte : Physical → Regs → ℕ
+code_byte physical r = byte_at physical (linear_of (seg_of r Cs) r.eip)
+
+-- some run from a machine ends after so many steps, below the bound, where this byte stands at CS:EIP and the next step is not built
+pub record IsUnbuiltAt (m : Machine NoPorts) (bound steps byte : ℕ) : Type 0 where
+  pub reaches : ReachesUnbuilt no_board unmoved [] meets_plain m bound
   pub count : steps ≡ length reaches.choices
-  pub code : byte ≡ code_byte reaches.last.mem.physical reaches.last.core.regs 0
+  pub unpaged : reaches.last.state.mem.paging ≡ false
+  pub code : byte ≡ code_byte reaches.last.state.mem.physical reaches.last.state.core.regs
 
 -- the refusal tells of such a step
-abbrev pub StopsAt : State → ℕ → Refusal → Type 0
-StopsAt s bound (refusals.Unbuilt steps byte) = IsUnbuiltAt s bound steps byte
-StopsAt s bound _ = ⊥
+abbrev pub StopsAt : Machine NoPorts → ℕ → Refusal → Type 0
+StopsAt m bound (refusals.Unbuilt steps byte) = IsUnbuiltAt m bound steps byte
+StopsAt m bound _ = ⊥
 
 -- the run comes, before its last step, to a step that is not built, after so many steps, where this byte stands at CS:EIP
 pub record IsStopped (job : RunJob) (rom_left : Option (List ℕ)) (steps byte : ℕ) : Type 0 where
   pub rom : List ℕ
   pub whole : IsWhole rom_left rom
   pub size : IsRomLength (length rom)
-  pub at : IsUnbuiltAt (boot 4 rom) job.steps steps byte
+  pub at : IsUnbuiltAt (powered rom) job.steps steps byte
 
 -- an output grew by some first bytes of the report of the run
 pub record IsReportCut (job : RunJob) (rom_left report_before report_now : Option (List ℕ)) : Type 0 where
@@ -107,10 +117,10 @@ pub record IsReportCut (job : RunJob) (rom_left report_before report_now : Optio
   pub whole : IsWhole rom_left rom
   pub size : IsRomLength (length rom)
   pub choices : List Choice
-  pub last : State
+  pub last : Machine NoPorts
   pub as_many : length choices ≡ job.steps
-  pub run : Run meets_any (boot 4 rom) [] choices last
-  pub report : AppendsPrefix report_before report_now (report_text last (walk_count choices))
+  pub run : Run no_board unmoved [] meets_plain (powered rom) choices last
+  pub report : AppendsPrefix report_before report_now (report_text last.state (walk_count choices))
 
 -- an output grew by some first bytes of the listing that is asked for
 pub record IsListingCut (job : DisJob) (rom_left report_before report_now : Option (List ℕ)) : Type 0 where

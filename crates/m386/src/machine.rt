@@ -1,13 +1,13 @@
 //! The machine of a run: built, and run for so many steps.
 
-ghost use Rattle.std.specs.Prelude.{◌≡◌, ◌≤◌, ◌<◌, ◌^◌, ◌*◌, [], length, IfOk, IfErr, OnOk};
-ghost use Rattle.mdl_state.specs.Boot.{boot, empty_ram};
+ghost use Rattle.std.specs.Prelude.{◌≡◌, ◌≤◌, ◌<◌, ◌^◌, ◌*◌, [], length, IfOk, IfErr, OnOk, true};
+ghost use Rattle.mdl_state.specs.Boot.{empty_ram};
 ghost use Rattle.mdl_state.specs.Memory.{IsRomLength};
-ghost use Rattle.mdl_state.specs.Policy.{meets_any};
+ghost use Rattle.mdl_state.specs.Policy.{meets_plain};
 ghost use Rattle.mdl_step.specs.RunLaws.{StepsFor};
-ghost use Rattle.mdl_step.specs.Step.{code_byte};
 ghost use Rattle.phys_map.specs.Sound.{IsBlank};
-ghost use Rattle.m386.specs.Refusals.{StopsAt};
+ghost use Rattle.m386.specs.Powered.{no_board, unmoved, powered};
+ghost use Rattle.m386.specs.Refusals.{code_byte, StopsAt};
 
 use crate::refusals::Refusal;
 use cpu_core::Cpu;
@@ -43,16 +43,16 @@ fn empty_ram(alloc: Global, mebibytes: u32) -> Result<Ram, AllocError>
 /// The machine at boot with this ROM.
 pub(crate) fn boot(alloc: Global, rom: Vec<u8>) -> Result<Machine, AllocError>
     requires { IsRomLength (length rom.items) }
-    ensures { IfOk result (λ machine. machine.state ≡ boot 4 rom.items) }
+    ensures { IfOk result (λ machine. machine ≡ powered rom.items) }
 {
     let ram = empty_ram(alloc, RAM_MEBIBYTES)?;
     Ok(Cpu::new(Tlb::new(PhysMap::new(ram, rom)), NoPorts))
 }
 
-/// The byte at CS:EIP.
-#[tactic(auto, unfolding(mdl_step::specs::Step::code_byte))]
+/// The byte at CS:EIP, while paging is off.
+#[tactic(auto, unfolding(crate::specs::Refusals::code_byte))]
 fn code_byte(machine: &Machine) -> u8
-    ensures { result ≡ code_byte machine.now.state.mem.physical machine.now.state.core.regs 0 }
+    ensures { result ≡ code_byte machine.now.state.mem.physical machine.now.state.core.regs }
 {
     let regs = machine.regs();
     let at = segment(&regs, Seg::Cs).base.wrapping_add(regs.eip);
@@ -63,9 +63,10 @@ fn code_byte(machine: &Machine) -> u8
 pub(crate) fn run(machine: &mut Machine, steps: u64) -> Result<(), Refusal>
     requires some { steps < 2 ^ 63 }
     requires boot { machine.old.state.core.steps ≡ 0 }
-    ensures made { OnOk result (StepsFor meets_any steps [] machine.old.state machine.new.state) }
+    requires a20 { machine.old.state.mem.physical.a20 ≡ true }
+    ensures made { OnOk result (StepsFor no_board unmoved [] meets_plain steps machine.old machine.new) }
     ensures count { OnOk result (machine.new.state.core.steps ≡ steps) }
-    ensures unbuilt { IfErr result (StopsAt machine.old.state steps) }
+    ensures unbuilt { IfErr result (StopsAt machine.old steps) }
 {
     for step in 0..steps {
         if !machine.step() {

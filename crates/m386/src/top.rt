@@ -6,10 +6,10 @@ ghost use Rattle.host_io.specs.declared.host.OutSlot.TheVariants.{Report};
 ghost use Rattle.host_io.specs.declared.host.Slot.{Slot};
 ghost use Rattle.host_io.specs.declared.host.Slot.TheVariants.{In, Out};
 ghost use Rattle.host_io.specs.Slots.{Same, SameBut};
-ghost use Rattle.mdl_state.specs.Boot.{boot};
 ghost use Rattle.mdl_state.specs.Memory.{IsRomLength};
-ghost use Rattle.mdl_state.specs.Policy.{meets_any};
+ghost use Rattle.mdl_state.specs.Policy.{meets_plain};
 ghost use Rattle.mdl_step.specs.Run.{ReachesUnbuilt};
+ghost use Rattle.m386.specs.Powered.{no_board, unmoved, powered};
 ghost use Rattle.m386.specs.Words as asked;
 ghost use Rattle.m386.specs.Words.{ToRun, ToList, Matched, NoneMatched, texts};
 ghost use Rattle.m386.specs.Headline.{Headline};
@@ -81,7 +81,7 @@ pub fn m386<H: Host>(alloc: Global, words: &[&str], host: &mut H) -> Status
     ensures complete { (job : asked.RunJob) → (rom : List ℕ) → Matched (texts words.now) (ToRun job)
         → H.left host.old Rom ≡ Some rom → IsRomLength (length rom)
         → ¬ SomeRose (H.faults host.old) (H.faults host.new)
-        → ¬ ReachesUnbuilt meets_any (boot 4 rom) [] job.steps
+        → ¬ ReachesUnbuilt no_board unmoved [] meets_plain (powered rom) job.steps
         → (result ≡ Status.Done) ⊎ (result ≡ Status.Memory) }
     ensures complete_listing { (job : asked.DisJob) → (rom : List ℕ) → Matched (texts words.now) (ToList job)
         → H.left host.old Rom ≡ Some rom → IsRomLength (length rom)
