@@ -1,11 +1,11 @@
 -- What follows from a script being one: there is one reading, and one line is the first bad one.
-use Rattle.std.proofs.Common.{◌≡◌, ◌≢◌, ℕ, ◌+◌, ◌-◌, ◌*◌, ◌^◌, ◌<◌, ◌≤◌, ◌==◌, not, Bool, true, false, cond, List, [], ◌∷◌, ◌++◌, length, take, codes, refl, sym, ap, ap₂, ◌∙◌, subst, arith, get_or, drop, zero, suc, ◌⊎◌, inl, inr}
+use Rattle.std.proofs.Common.{◌≡◌, ◌≢◌, ℕ, ◌+◌, ◌-◌, ◌*◌, ◌^◌, ◌<◌, ◌≤◌, not, true, false, List, [], ◌∷◌, ◌++◌, length, take, codes, refl, sym, ap, ap₂, ◌∙◌, subst, arith, get_or, drop, zero, suc, inl, inr}
 use Rattle.std.specs.Char.{digit_value}
 use Rattle.std.specs.Fmt.{decimal}
 use Rattle.std.specs.Int.{IsInRange}
-use Rattle.std.specs.List.{AllZip, AllByRecursion, filter}
+use Rattle.std.specs.List.{AllZip, AllByRecursion}
 use Rattle.std.specs.Str.Lines.{lines}
-use Rattle.std.specs.Str.Parse.{AllDigits, digits_value}
+use Rattle.std.specs.Str.Parse.{AllDigits}
 use Rattle.std.proofs.lemmas.Bool.{cases_lt}
 use Rattle.std.proofs.lemmas.Fmt.{decimal_is_IsNumeral, decimal_injective}
 use Rattle.std.proofs.lemmas.List.{append_cancel_left, append-nil, length-append, take-append-drop}
@@ -77,7 +77,7 @@ one_kind Reset (Pulse n) text h g = absurd (apart text (codes "reset") (codes "p
 one_kind Reset Nmi text h g = absurd (apart text (codes "reset") (codes "nmi") (λ k. omega (arith, k)) h g)
 one_kind Reset Reset text h g = refl
 
-one_event : (line : List ℕ) (a b : Event) → States line a → States line b → a ≡ b
+pub one_event : (line : List ℕ) (a b : Event) → States line a → States line b → a ≡ b
 one_event line a b p q =
     let cut = one_cut 32 (decimal a.at) (decimal b.at) p.kind q.kind (decimal_lacks_space a.at p.count) (decimal_lacks_space b.at q.count) (sym p.whole ∙ q.whole) in
     let count : a.at ≡ b.at = decimal_injective a.at b.at (omega (arith, p.count)) (omega (arith, q.count)) cut.0 in
@@ -197,12 +197,14 @@ stops lines events line h keep none others s =
 
 in_front : (front back : List (List ℕ)) (events : List Event) → AreScript (front ++ back) events → (early : List Event) × AreScript front early
 in_front front back events h =
-    let c = cut (spoken front) (spoken back) events (subst (λ (ls : List (List ℕ)). AllZip States ls events) (spoken-append front back) h.stated) in
-    (c.early, record {
-      stated = c.front_stated;
-      rising = rises_in_front 0 c.early c.late (subst (RisesFrom 0) c.whole h.rising);
-      few = (let few : length (c.early ++ c.late) ≤ most_events = subst (λ (es : List Event). length es ≤ most_events) c.whole h.few in omega (arith, length-append c.early c.late));
-    })
+    let c = cut (spoken front) (spoken back) events (subst (λ (ls : List (List ℕ)). AllZip States ls events) (spoken-append front back) h.stated) in (
+      c.early,
+      record {
+        stated = c.front_stated;
+        rising = rises_in_front 0 c.early c.late (subst (RisesFrom 0) c.whole h.rising);
+        few = (let few : length (c.early ++ c.late) ≤ most_events = subst (λ (es : List Event). length es ≤ most_events) c.whole h.few in omega (arith, length-append c.early c.late));
+      },
+    )
 
 first_lines : (lines : List (List ℕ)) (n : ℕ) (events : List Event) → AreScript lines events → (early : List Event) × AreScript (take n lines) early
 first_lines lines n events h = in_front (take n lines) (drop n lines) events (subst (λ (ls : List (List ℕ)). AreScript ls events) (sym (take-append-drop n lines)) h)
