@@ -4,3 +4,9 @@
 //! The one contract used above is the definitions themselves. Read `specs/Script.antt` for the
 //! script, `specs/CommandLine.antt` for the monitor.
 #![tactic(auto)]
+
+mod command;
+mod command_laws;
+
+pub use command::Command;
+pub use command_laws::{a_line_is_one_command, a_long_line_is_no_command};
