@@ -1,1 +1,2 @@
+pub mod CommandInput
 pub mod CommandLine
