@@ -2,12 +2,20 @@
 //! monitor; and the demo guest, which a number writes.
 //!
 //! The one contract used above is the definitions themselves. Read `specs/Script.antt` for the
-//! script, `specs/CommandLine.antt` for the monitor, `specs/Demo.antt` for the demo guest.
+//! script, `specs/CommandLine.antt` and then `CommandInput.antt` for the monitor, `specs/Demo.antt` for
+//! the demo guest.
 #![tactic(auto)]
 
+mod command;
+mod command_laws;
 mod demo_laws;
 mod script_laws;
 
+pub use command::Command;
+pub use command_laws::{
+    a_line_is_kept_as_far_as_it_matters, a_line_is_one_command, a_long_line_is_no_command,
+    an_input_is_cut_in_one_way,
+};
 pub use demo_laws::a_demo_guest_is_a_rom;
 pub use script_laws::{
     a_script_has_no_bad_line, a_script_has_one_reading, one_line_is_the_first_bad_one,

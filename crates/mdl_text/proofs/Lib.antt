@@ -1,0 +1,2 @@
+pub mod CommandInputs
+pub mod CommandLines
