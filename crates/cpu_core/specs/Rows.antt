@@ -1,5 +1,5 @@
 -- The rows of the boundary as the processor tells them apart.
-use Rattle.std.specs.Prelude.{◌≡◌, ⊤, ⊥}
+use Rattle.std.specs.Prelude.{◌≡◌, ⊤}
 use Rattle.mdl_step.specs.Boundary as rows
 use Rattle.mdl_step.specs.Boundary.{Boundary}
 use Rattle.cpu_core.specs.declared.boundary.Row.{Row}

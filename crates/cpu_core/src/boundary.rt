@@ -1,6 +1,6 @@
 //! The boundary between two instructions. Manual, chapters 9 and 10.
 
-ghost use Rattle.std.specs.Prelude.{◌≡◌, ℕ};
+ghost use Rattle.std.specs.Prelude.{◌≡◌, ◌<◌, ℕ};
 ghost use Rattle.mdl_state.specs.Bytes.{bit};
 ghost use Rattle.mdl_step.specs.Boundary.{takes_nmi, takes_trap, takes_line, boundary_rows};
 ghost use Rattle.mdl_step.specs.Step.{hold_after, activity_after};

@@ -72,13 +72,10 @@ impl<L: Linear, P: Ports> Cpu<L, P> {
     /// The processor after a reset, before its first step.
     #[tactic(auto, unfolding(lazy_flags::specs::Keeper::with_status, mdl_num::specs::Flags::is_set, mdl_num::specs::Flags::with_bit))]
     pub fn new(lin: L, ports: P) -> Cpu<L, P>
-        requires unpaged { (L.seen lin).paging ≡ false }
-        requires unheld { (L.seen lin).held ≡ [] }
-        requires items { (L.seen lin).served ≡ [] }
-        requires unwatched { (L.seen lin).watch ≡ [] }
+        requires plain { IsPlain (L.seen lin) }
         ensures core { result.state.core ≡ reset_core }
         ensures memory { result.state.mem ≡ L.seen lin }
-        ensures ports { result.ports ≡ ports }
+        ensures board { result.board ≡ ports }
     {
         let regs = reset_regs();
         Cpu {

@@ -42,7 +42,8 @@ pub record Arrival : Type 0 where
   pub activity : Activity
   pub trap : Bool
 
--- The delivery of a cause, all of it committed. None is built yet: there is no step that delivers.
+-- The delivery of a cause, all of it committed; that of a software interrupt clears RF behind what it saves.
+-- None is built yet: there is no step that delivers.
 unfoldable pub deliver : Serve → Cause → Regs → Mem → Outcome Arrival × Mem
 deliver serve cause r m = (NoStep, m)
 

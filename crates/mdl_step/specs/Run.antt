@@ -1,5 +1,5 @@
 -- Runs of the machine: steps, with the events that are due at each count of steps.
-use Rattle.std.specs.Prelude.{◌≡◌, ◌<◌, ◌≤◌, ℕ, ◌+◌, ◌-◌, ◌^◌, ◌==◌, List, [], ◌∷◌, length, min}
+use Rattle.std.specs.Prelude.{◌≡◌, ◌<◌, ℕ, ◌+◌, ◌-◌, ◌^◌, ◌==◌, List, [], ◌∷◌, length, min}
 use Rattle.std.specs.List.{filter}
 use Rattle.mdl_state.specs.declared.Event.{Event}
 use Rattle.mdl_state.specs.declared.EventKind.{EventKind}
@@ -39,11 +39,6 @@ module _ {B : Type 0} (rules : Rules B) (on_board : EventKind → B → B) (even
     pub before : length choices < steps
     pub run : Run policy m choices last
     pub unbuilt : IsUnbuilt rules policy last
-
--- the counts of the events do not fall, and the first is not below a number
-abbrev pub RisesFrom : ℕ → List Event → Type 0
-RisesFrom n [] = Unit {0}
-RisesFrom n (e ∷ es) = (n ≤ e.at) × RisesFrom e.at es
 
 -- ---- walks
 

@@ -213,7 +213,7 @@ counted_with a20 s = record { core = counted s.core; mem = with_a20 a20 s.mem }
 
 -- then a reset is made that the board asks for, which it forgets
 abbrev pub EndsBy : {B : Type 0} → Bool → Rules B → Machine B → Machine B → Type 0
-EndsBy true rules mid n = rules.forgets mid.board n.board × (n.state ≡ after_reset (rules.gate mid.board) (counted_with (rules.gate mid.board) mid.state))
+EndsBy true rules mid n = rules.forgets mid.board n.board × (n.state ≡ after_reset (rules.gate n.board) (counted_with (rules.gate mid.board) mid.state))
 EndsBy false rules mid n = n ≡ record { state = counted_with (rules.gate mid.board) mid.state; board = mid.board }
 
 -- A step with this choice, each item of which meets the policy.
