@@ -6,7 +6,7 @@ use Rattle.exec_data.proofs.instructions.run.Goals as goal
 pub run_memory-requires-clause-formed : goal.run_memory-requires-clause-formed
 run_memory-requires-clause-formed g c =
     let spelt = c.requires.spelt in
-    spelt_formed spelt.0 spelt.1 c.args.insn.now spelt.2 c.requires.runs
+    spelt_formed spelt.0 spelt.1 c.args.insn.now spelt.2
 
 pub run_memory-requires-clause-placed : goal.run_memory-requires-clause-placed
 run_memory-requires-clause-placed g c =

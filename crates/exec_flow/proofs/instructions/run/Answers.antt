@@ -1,17 +1,11 @@
 use Rattle.mdl_cpu.proofs.AddressLaws.{spelt_addresses}
-use Rattle.mdl_effect.proofs.FormLaws.{spelt_flow}
-use Rattle.exec_flow.proofs.NearLaws.{spelt_near}
+use Rattle.mdl_effect.proofs.FormLaws.{spelt_formed}
 use Rattle.exec_flow.proofs.instructions.run.Goals as goal
 
 pub run_formed-requires-clause-formed : goal.run_formed-requires-clause-formed
 run_formed-requires-clause-formed g c =
     let spelt = c.requires.spelt in
-    spelt_flow spelt.0 spelt.1 c.args.insn.now spelt.2 c.requires.runs
-
-pub run_formed-requires-clause-near : goal.run_formed-requires-clause-near
-run_formed-requires-clause-near g c =
-    let spelt = c.requires.spelt in
-    spelt_near spelt.0 spelt.1 c.args.insn.now spelt.2
+    spelt_formed spelt.0 spelt.1 c.args.insn.now spelt.2
 
 pub run_formed-requires-clause-address : goal.run_formed-requires-clause-address
 run_formed-requires-clause-address g c =
