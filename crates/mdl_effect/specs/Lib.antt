@@ -9,4 +9,5 @@ pub mod Jumps
 pub mod FlagEffects
 pub mod FlowEffects
 pub mod StringEffects
+pub mod Kinds
 pub mod Forms

@@ -19,7 +19,6 @@ use Rattle.mdl_insn.specs.declared.mnemonics.Op.TheVariants as ops
 use Rattle.mdl_effect.specs.Operands.{After, NoPort, follow, no_such, count_of, counted_down, address_size, DF, with_flags}
 use Rattle.mdl_cpu.specs.Access.{load_from, store_to}
 
-
 -- the mnemonics of strings
 abbrev pub runs_string : Op → Bool
 runs_string ops.Movs = true
