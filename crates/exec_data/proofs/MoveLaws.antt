@@ -1,6 +1,7 @@
 -- MOV by its operands.
 use Rattle.std.proofs.Common.{◌≡◌, ◌≢◌, ℕ, ◌&&◌, refl, Bool, true, false}
 use Rattle.std.specs.Prelude.{not, ◌||◌}
+use Rattle.std.proofs.lemmas.Bool.{false≢true}
 use Rattle.mdl_state.specs.declared.Size.{Size}
 use Rattle.mdl_state.specs.declared.Size.TheVariants.{B1, B2}
 use Rattle.mdl_state.specs.declared.Seg.{Seg}
@@ -48,8 +49,8 @@ pub move_memory : (insn : Insn) → is_data insn.op ≡ true → is_placed insn 
 move_memory insn d p e = not_both (is_data insn.op) (is_plain insn.a) (is_plain insn.b) (is_plain insn.c) _ d p e
 
 ordinary : (op : Op) (x y z w : Bool) → is_move op ≡ true → ((is_data op && not x && not y) || z || w) ≡ true → z ≡ false → w ≡ false → (x ≡ false) × (y ≡ false)
-ordinary ops.Mov true y z w e h p q = rw (p, q) at h
-ordinary ops.Mov false true z w e h p q = rw (p, q) at h
+ordinary ops.Mov true y z w e h p q = absurd (false≢true (rw (p, q) at h))
+ordinary ops.Mov false true z w e h p q = absurd (false≢true (rw (p, q) at h))
 ordinary ops.Mov false false z w e h p q = (refl, refl)
 ordinary _ x y z w e h p q = absurd cc
 
@@ -73,14 +74,14 @@ pub ordinary_second : (insn : Insn) → is_move insn.op ≡ true → runs_data i
 ordinary_second insn e runs = (move_ordinary insn e runs).1
 
 -- a MOV from a segment register
-stored : (a : Operand) (seg : Seg) (size : Size) → is_segment a ≡ false → is_special a ≡ false → IsMove a (Sreg seg) size → (size ≢ B1) × (is_place a ≡ true) × IsOf B2 a
+pub stored : (a : Operand) (seg : Seg) (size : Size) → is_segment a ≡ false → is_special a ≡ false → IsMove a (Sreg seg) size → (size ≢ B1) × (is_place a ≡ true) × IsOf B2 a
 stored (Sreg other) seg size s x m = absurd cc
 stored (Creg n) seg size s x m = absurd cc
 stored (Dreg n) seg size s x m = absurd cc
 stored _ seg size s x m = m
 
 -- a MOV of neither
-general : (a b : Operand) (size : Size) → is_segment a ≡ false → is_special a ≡ false → is_segment b ≡ false → is_special b ≡ false → IsMove a b size
+pub general : (a b : Operand) (size : Size) → is_segment a ≡ false → is_special a ≡ false → is_segment b ≡ false → is_special b ≡ false → IsMove a b size
     → ((is_place a ≡ true) × IsOf size a) × ((is_value b ≡ true) × IsOf size b) × ((is_plain a || is_plain b) ≡ true)
 general (Sreg seg) b size s x t y m = absurd cc
 general (Creg n) b size s x t y m = absurd cc

@@ -134,13 +134,13 @@ abbrev IsPlacedInsn : Insn → Type 0
 IsPlacedInsn insn = is_data insn.op ≡ true → is_placed insn ≡ true
 
 row_insn : (s : Setting) (r : Row) (p : Place) (x y z : ℕ) → is_placed_row r ≡ true → IsPlacedInsn (insn_of s r p x y z)
-row_insn s r p x y z e data =
+row_insn s r p x y z e built =
     let sides : Bool = placed r.op (is_plain_form r.a) (is_plain_form r.b) (is_no r.b) in
     both_more (is_plain_form r.c) sides (is_plain (operand s p r.c z)) (placed r.op (is_plain (operand s p r.a x)) (is_plain (operand s p r.b y)) (is_nothing (operand s p r.b y)))
     (plain_operand s p r.c z)
     (placed_more r.op (is_plain_form r.a) (is_plain_form r.b) (is_no r.b) (is_plain (operand s p r.a x)) (is_plain (operand s p r.b y)) (is_nothing (operand s p r.b y))
     (plain_operand s p r.a x) (plain_operand s p r.b y) (no_operand s p r.b y))
-    (implied (is_data r.op) (is_plain_form r.c && sides) e data)
+    (implied (is_data r.op) (is_plain_form r.c && sides) e built)
 
 pub spelt_placed : (bytes : List ℕ) (big : Bool) (insn : Insn) → Spelt bytes big insn → IsPlacedInsn insn
 spelt_placed bytes big insn h =
