@@ -31,7 +31,7 @@ pub fn runs_string(op: Op) -> bool
 /// `Next::Again` asks for the next iteration of a repeat, with EIP still at the instruction. The
 /// status flags of EFLAGS are those of `flags`. A fault leaves what was held before it to be
 /// dropped.
-#[tactic(auto, using(mdl_state::specs::Rules::attempts, operands::proofs::Steadies::steadies), unfolding(mdl_effect::specs::StringEffects::string_plan))]
+#[tactic(auto, using(mdl_state::specs::Rules::attempts), unfolding(mdl_effect::specs::StringEffects::string_plan))]
 pub fn run<L: Linear>(
     regs: &mut Regs,
     flags: &mut Flags,
