@@ -1,8 +1,7 @@
 -- Which operands are memory, by what a mnemonic takes.
-use Rattle.std.proofs.Common.{◌≡◌, Bool, true, false, refl}
+use Rattle.std.proofs.Common.{◌≡◌, true, false, refl}
 use Rattle.mdl_insn.specs.declared.instruction.Operand.{Operand}
-use Rattle.mdl_insn.specs.declared.instruction.Operand.TheVariants.{Nothing, Gpr, Sreg, Imm, At, Rel}
-use Rattle.mdl_state.specs.declared.Seg.TheVariants.{Es, Cs, Ss, Ds, Fs, Gs}
+use Rattle.mdl_insn.specs.declared.instruction.Operand.TheVariants.{Gpr, Sreg, Imm, At, Rel}
 use Rattle.mdl_effect.specs.Operands.{is_plain, is_segment}
 use Rattle.mdl_effect.specs.Kinds.{is_memory, is_place, is_value, is_relative, is_target, is_pushed, is_popped}
 
