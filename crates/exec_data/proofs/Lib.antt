@@ -6,3 +6,4 @@ pub mod PlaceLaws
 pub mod Loads
 pub mod Readings
 pub mod MoveLaws
+pub mod Memories

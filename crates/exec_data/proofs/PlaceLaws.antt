@@ -1,27 +1,22 @@
 -- Which operands of a data instruction may be memory, as the opcode rows give them.
-use Rattle.std.proofs.Common.{◌≡◌, ◌≢◌, ℕ, ◌==◌, ◌&&◌, Bool, true, false, cond, List, refl, sym, subst, ◌∙◌}
+use Rattle.std.proofs.Common.{◌≡◌, ℕ, ◌&&◌, Bool, true, false, List, refl, sym, subst}
 use Rattle.std.specs.Prelude.{not, ◌||◌}
 use Rattle.std.proofs.lemmas.Bool.{false≢true}
-use Rattle.mdl_state.specs.declared.Size.{Size}
-use Rattle.mdl_state.specs.declared.Size.TheVariants.{B1, B2, B4}
 use Rattle.mdl_state.specs.Bytes.{little}
 use Rattle.mdl_insn.specs.declared.instruction.Insn.{Insn}
 use Rattle.mdl_insn.specs.declared.instruction.Operand.{Operand}
-use Rattle.mdl_insn.specs.declared.instruction.Operand.TheVariants.{Nothing, Gpr, At}
+use Rattle.mdl_insn.specs.declared.instruction.Operand.TheVariants.{Nothing}
 use Rattle.mdl_insn.specs.declared.mnemonics.Op.{Op}
 use Rattle.mdl_insn.specs.declared.mnemonics.Op.TheVariants as ops
 use Rattle.mdl_insn.specs.declared.rows.Setting.{Setting}
-use Rattle.mdl_insn.specs.declared.rows.Width.{Width}
-use Rattle.mdl_insn.specs.declared.rows.Width.TheVariants.{Full}
 use Rattle.mdl_insn.specs.declared.rows.Form.{Form}
-use Rattle.mdl_insn.specs.declared.rows.Form.TheVariants.{No, Eb, Ev, Ew, Gb, Gv, Gw, Ib, Iv, Iw, Is, Rb, Rv, Al, Ax, Cl, Dx, Once, S, Sd, Es, Cs, Ss, Ds, Fs, Gs}
+use Rattle.mdl_insn.specs.declared.rows.Form.TheVariants.{No, Gb, Gv, Gw, Ib, Iv, Iw, Is, Rb, Rv, Al, Ax, Cl, Dx, Once}
 use Rattle.mdl_insn.specs.declared.rows.Row.{Row}
-use Rattle.mdl_insn.specs.Addresses.{mod_of, rm_of}
-use Rattle.mdl_insn.specs.Operands.{operand, Place, place, e_operand}
-use Rattle.mdl_insn.specs.Prefixes.{has, operand_size_prefix, setting}
-use Rattle.mdl_insn.specs.Spelling.{size_of, insn_of, opcode_last, SpeltRow, Spelt}
+use Rattle.mdl_insn.specs.Operands.{operand, Place, place}
+use Rattle.mdl_insn.specs.Prefixes.{setting}
+use Rattle.mdl_insn.specs.Spelling.{insn_of, opcode_last, SpeltRow, Spelt}
 use Rattle.mdl_effect.specs.DataEffects.{is_data}
-use Rattle.mdl_effect.specs.Operands.{is_plain, is_nothing, is_segment}
+use Rattle.mdl_effect.specs.Operands.{is_plain, is_nothing}
 use Rattle.mdl_effect.specs.DataEffects.{is_plain_data}
 use Rattle.mdl_effect.proofs.RowTests.{row_tested}
 use Rattle.exec_data.specs.Places.{placed, is_placed}
@@ -52,24 +47,9 @@ abbrev is_no : Form → Bool
 is_no No = true
 is_no _ = false
 
-abbrev is_segment_form : Form → Bool
-is_segment_form S = true
-is_segment_form Sd = true
-is_segment_form Es = true
-is_segment_form Cs = true
-is_segment_form Ss = true
-is_segment_form Ds = true
-is_segment_form Fs = true
-is_segment_form Gs = true
-is_segment_form _ = false
-
-abbrev is_full : Width → Bool
-is_full Full = true
-is_full _ = false
-
--- the forms are placed as the mnemonic asks, and a row that reads a segment register is of the operand size
+-- the forms are placed as the mnemonic asks
 abbrev is_placed_row : Row → Bool
-is_placed_row r = not (is_data r.op) || (is_plain_form r.c && (placed r.op (is_plain_form r.a) (is_plain_form r.b) (is_no r.b) && (not (is_segment_form r.b) || is_full r.width)))
+is_placed_row r = not (is_data r.op) || (is_plain_form r.c && placed r.op (is_plain_form r.a) (is_plain_form r.b) (is_no r.b))
 
 row_placed : {bytes : List ℕ} {big : Bool} {insn : Insn} (h : Spelt bytes big insn) → is_placed_row h.row.row ≡ true
 row_placed h = row_tested is_placed_row refl refl refl _ _ _ h
@@ -98,15 +78,6 @@ no_operand : (s : Setting) (p : Place) (f : Form) (x : ℕ) → is_no f ≡ true
 no_operand s p No x e = refl
 no_operand s p _ x e = absurd cc
 
-no_segment : (p : Place) (size : Size) → is_segment (e_operand p size) ≡ false
-no_segment p size = elim (mod_of p.modrm == 3) as (λ v. is_segment (cond v (Gpr (rm_of p.modrm) size) (At p.mem size)) ≡ false) [ true ↦ refl | false ↦ refl ]
-
-segment_form : (s : Setting) (p : Place) (f : Form) (x : ℕ) → is_segment (operand s p f x) ≡ is_segment_form f
-segment_form s p Eb x = no_segment p B1
-segment_form s p Ev x = no_segment p s.size
-segment_form s p Ew x = no_segment p B2
-segment_form s p _ x = refl
-
 -- ---- the instruction
 
 implied : (a b : Bool) → (not a || b) ≡ true → a ≡ true → b ≡ true
@@ -116,10 +87,6 @@ implied false b e h = absurd cc
 both : (a b : Bool) → (a && b) ≡ true → (a ≡ true) × (b ≡ true)
 both true b e = (refl, e)
 both false b e = absurd cc
-
-both_true : (a b : Bool) → a ≡ true → b ≡ true → (a && b) ≡ true
-both_true true b e f = f
-both_true false b e f = absurd (false≢true e)
 
 either_more : (x y x' y' : Bool) → (x ≡ true → x' ≡ true) → (y ≡ true → y' ≡ true) → (x || y) ≡ true → (x' || y') ≡ true
 either_more true y true y' f g e = refl
@@ -162,38 +129,25 @@ placed_more ops.Aam x y z x' y' z' f g h e = both_more x y x' y' f g e
 placed_more ops.Aad x y z x' y' z' f g h e = both_more x y x' y' f g e
 placed_more _ x y z x' y' z' f g h e = g e
 
-setting_size : (big : Bool) (ps : List ℕ) → (setting big ps).size ≢ B1
-setting_size true ps = elim (has operand_size_prefix ps) as (λ v. cond v B2 B4 ≢ B1) [ true ↦ λ e. absurd cc | false ↦ λ e. absurd cc ]
-setting_size false ps = elim (has operand_size_prefix ps) as (λ v. cond v B4 B2 ≢ B1) [ true ↦ λ e. absurd cc | false ↦ λ e. absurd cc ]
-
-full_size : (s : Setting) (w : Width) → s.size ≢ B1 → is_full w ≡ true → size_of s w ≢ B1
-full_size s Full wide e = wide
-full_size s _ wide e = absurd cc
-
 -- the row of a data instruction, and its instruction
 abbrev IsPlacedInsn : Insn → Type 0
-IsPlacedInsn insn = is_data insn.op ≡ true → (is_placed insn ≡ true) × (is_segment insn.b ≡ true → insn.size ≢ B1)
+IsPlacedInsn insn = is_data insn.op ≡ true → is_placed insn ≡ true
 
-row_insn : (s : Setting) (r : Row) (p : Place) (x y z : ℕ) → s.size ≢ B1 → is_placed_row r ≡ true → IsPlacedInsn (insn_of s r p x y z)
-row_insn s r p x y z wide e built =
-    let wide_row : Bool = not (is_segment_form r.b) || is_full r.width in
+row_insn : (s : Setting) (r : Row) (p : Place) (x y z : ℕ) → is_placed_row r ≡ true → IsPlacedInsn (insn_of s r p x y z)
+row_insn s r p x y z e built =
     let sides : Bool = placed r.op (is_plain_form r.a) (is_plain_form r.b) (is_no r.b) in
-    let parts = both (is_plain_form r.c) (sides && wide_row) (implied (is_data r.op) (is_plain_form r.c && (sides && wide_row)) e built) in
-    let more = both sides wide_row parts.1 in (
-      both_more (is_plain_form r.c) sides (is_plain (operand s p r.c z)) (placed r.op (is_plain (operand s p r.a x)) (is_plain (operand s p r.b y)) (is_nothing (operand s p r.b y)))
-          (plain_operand s p r.c z)
-          (placed_more r.op (is_plain_form r.a) (is_plain_form r.b) (is_no r.b) (is_plain (operand s p r.a x)) (is_plain (operand s p r.b y)) (is_nothing (operand s p r.b y))
-          (plain_operand s p r.a x) (plain_operand s p r.b y) (no_operand s p r.b y))
-          (both_true (is_plain_form r.c) sides parts.0 more.0),
-      λ seg. full_size s r.width wide (implied (is_segment_form r.b) (is_full r.width) more.1 (sym (segment_form s p r.b y) ∙ seg)),
-    )
+    both_more (is_plain_form r.c) sides (is_plain (operand s p r.c z)) (placed r.op (is_plain (operand s p r.a x)) (is_plain (operand s p r.b y)) (is_nothing (operand s p r.b y)))
+    (plain_operand s p r.c z)
+    (placed_more r.op (is_plain_form r.a) (is_plain_form r.b) (is_no r.b) (is_plain (operand s p r.a x)) (is_plain (operand s p r.b y)) (is_nothing (operand s p r.b y))
+    (plain_operand s p r.a x) (plain_operand s p r.b y) (no_operand s p r.b y))
+    (implied (is_data r.op) (is_plain_form r.c && sides) e built)
 
 pub spelt_placed : (bytes : List ℕ) (big : Bool) (insn : Insn) → Spelt bytes big insn → IsPlacedInsn insn
 spelt_placed bytes big insn h =
     let s : Setting = setting big h.prefixes in
     let q : SpeltRow s h.rest insn = h.row in
     subst IsPlacedInsn (sym q.insn_is)
-    (row_insn s q.row (place s (little (opcode_last q.opcode)) (little q.modrm) (little q.sib) (little q.disp)) (little q.x) (little q.y) (little q.z) (setting_size big h.prefixes) (row_placed h))
+    (row_insn s q.row (place s (little (opcode_last q.opcode)) (little q.modrm) (little q.sib) (little q.disp)) (little q.x) (little q.y) (little q.z) (row_placed h))
 
 -- ---- what is placed, by the operand that is memory
 

@@ -1,6 +1,6 @@
 -- An instruction that reads memory does what it does on the number read.
 use Rattle.std.proofs.Common.{◌≡◌, ◌<◌, ◌&&◌, ℕ, refl, sym, ◌∙◌, ap, Bool, true, false}
-use Rattle.std.specs.Prelude.{Result, Ok, Err}
+use Rattle.std.specs.Prelude.{◌||◌, Result, Ok, Err}
 use Rattle.mdl_state.specs.declared.Size.{Size}
 use Rattle.mdl_state.specs.declared.Regs.{Regs}
 use Rattle.mdl_state.specs.declared.Fault.{Fault}
@@ -20,9 +20,9 @@ use Rattle.mdl_effect.specs.Arithmetic.{binary_plan, compare_plan, multiply_plan
 use Rattle.mdl_effect.specs.Shifts.{scan_plan}
 use Rattle.mdl_effect.specs.DataEffects.{is_data, by_mnemonic, data_effect}
 use Rattle.mdl_effect.specs.DataEffects.{is_plain_data}
+use Rattle.mdl_effect.specs.Kinds.{is_memory}
 use Rattle.mdl_effect.specs.Forms.{IsOf, IsWithin, IsFormedAs}
 use Rattle.operands.specs.Whole.{after, done}
-use Rattle.operands.specs.Memory.{is_memory}
 use Rattle.exec_data.proofs.PlaceLaws.{not_nothing}
 use Rattle.exec_data.specs.Reads.{reads_first, reads_second, with_first, with_second}
 
@@ -80,32 +80,36 @@ number_within : (b : Operand) (size : Size) (value : ℕ) → is_memory b ≡ tr
 number_within (At mem own) size value m lt e = (e, lt)
 number_within _ size value m lt e = absurd cc
 
+or_true : (x : Bool) → (x || true) ≡ true
+or_true true = refl
+or_true false = refl
+
 pub second_formed : (op : Op) (insn : Insn) (value : ℕ) → reads_second op ≡ true → is_memory insn.b ≡ true → value < bound_of (size_of insn.b)
     → IsFormedAs op insn → IsFormedAs op (with_second insn value)
-second_formed ops.Movzx insn value o m lt f = (f.0, number_within insn.b insn.size value m lt f.1)
-second_formed ops.Movsx insn value o m lt f = (f.0, number_within insn.b insn.size value m lt f.1)
-second_formed ops.Bsf insn value o m lt f = (f.0, f.1, number_of insn.b insn.size value m lt f.2)
-second_formed ops.Bsr insn value o m lt f = (f.0, f.1, number_of insn.b insn.size value m lt f.2)
-second_formed ops.Imul insn value o m lt f = (f.0, number_of insn.b insn.size value m lt f.1, f.2)
-second_formed ops.Add insn value o m lt f = (f.0, number_of insn.b insn.size value m lt f.1)
-second_formed ops.Or insn value o m lt f = (f.0, number_of insn.b insn.size value m lt f.1)
-second_formed ops.Adc insn value o m lt f = (f.0, number_of insn.b insn.size value m lt f.1)
-second_formed ops.Sbb insn value o m lt f = (f.0, number_of insn.b insn.size value m lt f.1)
-second_formed ops.And insn value o m lt f = (f.0, number_of insn.b insn.size value m lt f.1)
-second_formed ops.Sub insn value o m lt f = (f.0, number_of insn.b insn.size value m lt f.1)
-second_formed ops.Xor insn value o m lt f = (f.0, number_of insn.b insn.size value m lt f.1)
-second_formed ops.Cmp insn value o m lt f = (f.0, number_of insn.b insn.size value m lt f.1)
-second_formed ops.Test insn value o m lt f = (f.0, number_of insn.b insn.size value m lt f.1)
+second_formed ops.Movzx insn value o m lt f = (f.0, (f.1.0, (refl, number_within insn.b insn.size value m lt f.1.1.1), f.1.2))
+second_formed ops.Movsx insn value o m lt f = (f.0, (f.1.0, (refl, number_within insn.b insn.size value m lt f.1.1.1), f.1.2))
+second_formed ops.Bsf insn value o m lt f = (f.0, (f.1.0, (refl, number_of insn.b insn.size value m lt f.1.1.1), f.1.2))
+second_formed ops.Bsr insn value o m lt f = (f.0, (f.1.0, (refl, number_of insn.b insn.size value m lt f.1.1.1), f.1.2))
+second_formed ops.Imul insn value o m lt f = (or_true (is_plain insn.a), (f.1.0, (refl, number_of insn.b insn.size value m lt f.1.1.1), f.1.2))
+second_formed ops.Add insn value o m lt f = (or_true (is_plain insn.a), (f.1.0, (refl, number_of insn.b insn.size value m lt f.1.1.1), f.1.2))
+second_formed ops.Or insn value o m lt f = (or_true (is_plain insn.a), (f.1.0, (refl, number_of insn.b insn.size value m lt f.1.1.1), f.1.2))
+second_formed ops.Adc insn value o m lt f = (or_true (is_plain insn.a), (f.1.0, (refl, number_of insn.b insn.size value m lt f.1.1.1), f.1.2))
+second_formed ops.Sbb insn value o m lt f = (or_true (is_plain insn.a), (f.1.0, (refl, number_of insn.b insn.size value m lt f.1.1.1), f.1.2))
+second_formed ops.And insn value o m lt f = (or_true (is_plain insn.a), (f.1.0, (refl, number_of insn.b insn.size value m lt f.1.1.1), f.1.2))
+second_formed ops.Sub insn value o m lt f = (or_true (is_plain insn.a), (f.1.0, (refl, number_of insn.b insn.size value m lt f.1.1.1), f.1.2))
+second_formed ops.Xor insn value o m lt f = (or_true (is_plain insn.a), (f.1.0, (refl, number_of insn.b insn.size value m lt f.1.1.1), f.1.2))
+second_formed ops.Cmp insn value o m lt f = (or_true (is_plain insn.a), (f.1.0, (refl, number_of insn.b insn.size value m lt f.1.1.1), f.1.2))
+second_formed ops.Test insn value o m lt f = (or_true (is_plain insn.a), (f.1.0, (refl, number_of insn.b insn.size value m lt f.1.1.1), f.1.2))
 second_formed _ insn value o m lt f = absurd cc
 
 pub first_formed : (op : Op) (none : Bool) (insn : Insn) (value : ℕ) → reads_first op none ≡ true → is_memory insn.a ≡ true → value < bound_of (size_of insn.a)
     → IsFormedAs op insn → IsFormedAs op (with_first insn value)
-first_formed ops.Cmp none insn value o m lt f = (number_of insn.a insn.size value m lt f.0, f.1)
-first_formed ops.Test none insn value o m lt f = (number_of insn.a insn.size value m lt f.0, f.1)
-first_formed ops.Mul none insn value o m lt f = number_of insn.a insn.size value m lt f
-first_formed ops.Imul none insn value o m lt f = (number_of insn.a insn.size value m lt f.0, f.1, f.2)
-first_formed ops.Div none insn value o m lt f = number_of insn.a insn.size value m lt f
-first_formed ops.Idiv none insn value o m lt f = number_of insn.a insn.size value m lt f
+first_formed ops.Cmp none insn value o m lt f = (refl, ((refl, number_of insn.a insn.size value m lt f.1.0.1), f.1.1, f.1.2))
+first_formed ops.Test none insn value o m lt f = (refl, ((refl, number_of insn.a insn.size value m lt f.1.0.1), f.1.1, f.1.2))
+first_formed ops.Imul none insn value o m lt f = (refl, ((refl, number_of insn.a insn.size value m lt f.1.0.1), f.1.1, f.1.2))
+first_formed ops.Mul none insn value o m lt f = ((refl, number_of insn.a insn.size value m lt f.0.1), f.1, f.2)
+first_formed ops.Div none insn value o m lt f = ((refl, number_of insn.a insn.size value m lt f.0.1), f.1, f.2)
+first_formed ops.Idiv none insn value o m lt f = ((refl, number_of insn.a insn.size value m lt f.0.1), f.1, f.2)
 first_formed _ none insn value o m lt f = absurd cc
 
 -- ---- attempts

@@ -1,6 +1,6 @@
 //! LEA and XLAT.
 
-ghost use Rattle.std.specs.Prelude.{◌≡◌, ◌<◌, ◌+◌, ◌%◌, ℕ, Some, OnErr};
+ghost use Rattle.std.specs.Prelude.{◌≡◌, ◌<◌, ◌+◌, ◌%◌, ℕ, true, Some, OnErr};
 ghost use Rattle.mdl_state.specs.declared.Size.TheVariants.{B1};
 ghost use Rattle.mdl_state.specs.Registers.{reg_of};
 ghost use Rattle.mdl_state.specs.Serving.{by_pick};
@@ -8,6 +8,7 @@ ghost use Rattle.mdl_state.specs.Accesses.{Keeps};
 ghost use Rattle.mdl_state.specs.Attempt.{tried};
 ghost use Rattle.mdl_cpu.specs.Addresses.{part_of, offset_bound, HasAddress};
 ghost use Rattle.mdl_effect.specs.Moves.{lea_plan, xlat_plan};
+ghost use Rattle.mdl_effect.specs.Kinds.{is_memory};
 ghost use Rattle.mdl_effect.specs.Forms.{IsOf};
 ghost use Rattle.operands.specs.Whole.{whole, after, KeepsOther};
 
@@ -15,7 +16,7 @@ use mdl_insn::{Insn, Operand};
 use mdl_num::low;
 use mdl_state::{Fault, Regs, Seg, Size};
 use mem_iface::Linear;
-use operands::{ACCUMULATOR, BASE, cut, load, no_such, offset, reg, set, set_reg};
+use operands::{ACCUMULATOR, BASE, cut, load, offset, reg, set, set_reg};
 
 /// LEA. Nothing is checked.
 #[tactic(auto, unfolding(mdl_effect::specs::Moves::lea_plan))]
@@ -25,6 +26,7 @@ pub(crate) fn load_address<L: Linear>(
     insn: &Insn,
 ) -> Result<(), Fault>
     requires a { IsOf insn.now.size insn.now.a }
+    requires memory { is_memory insn.now.b ≡ true }
     requires address { HasAddress insn.now.b }
     ensures run { (flags : ℕ) → (after result (whole regs.new flags), L.seen lin.new)
         ≡ tried (by_pick L.pick) 0 (lea_plan insn.now (whole regs.old flags)) (L.seen lin.old) }
@@ -32,14 +34,12 @@ pub(crate) fn load_address<L: Linear>(
     ensures unchanged { OnErr result (regs.new ≡ regs.old) }
     ensures keeps { Keeps (L.seen lin.old) (L.seen lin.new) }
 {
-    match &insn.b {
-        Operand::At(mem, _) => {
-            let offset = offset(regs, mem);
-            set(regs, &insn.a, insn.size, low(offset as u64, insn.size));
-            Ok(())
-        }
-        _ => Err(no_such()),
-    }
+    let Operand::At(mem, _) = &insn.b else {
+        unreachable!();
+    };
+    let offset = offset(regs, mem);
+    set(regs, &insn.a, insn.size, low(offset as u64, insn.size));
+    Ok(())
 }
 
 /// The offset of XLAT's byte.

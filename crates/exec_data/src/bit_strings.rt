@@ -1,6 +1,6 @@
 //! Bit tests in memory, where an index in a register may name a bit outside the operand.
 
-ghost use Rattle.std.specs.Prelude.{◌≡◌, ◌≢◌, ◌<◌, ℕ, IfOk, IfErr, OnErr};
+ghost use Rattle.std.specs.Prelude.{◌≡◌, ◌≢◌, ◌<◌, ℕ, true, IfOk, IfErr, OnErr};
 ghost use Rattle.mdl_state.specs.declared.Size.TheVariants.{B1};
 ghost use Rattle.mdl_state.specs.Bytes.{bound_of};
 ghost use Rattle.mdl_state.specs.Serving.{by_pick, outcome, Failed};
@@ -9,6 +9,7 @@ ghost use Rattle.mdl_state.specs.Attempt.{tried};
 ghost use Rattle.mdl_cpu.specs.Addresses.{IsAddress, HasAddress};
 ghost use Rattle.mdl_effect.specs.Operands.{Made};
 ghost use Rattle.mdl_effect.specs.Shifts.{bit_distance, bit_offset, bit_read, bit_change, bit_test_plan, bit_change_plan};
+ghost use Rattle.mdl_effect.specs.Kinds.{is_memory};
 ghost use Rattle.mdl_effect.specs.Forms.{IsOf};
 ghost use Rattle.operands.specs.Whole.{whole, after, IsPlainWithin};
 ghost use Rattle.operands.specs.Memory.{IsMemoryOf, changed};
@@ -19,7 +20,7 @@ use mdl_insn::{Insn, Mem, Operand};
 use mdl_num::{BitOp, bits, bound, half};
 use mdl_state::{Fault, Place, Regs, Size};
 use mem_iface::{Linear, bytes_of};
-use operands::{cut, keep, load, narrow_value, no_such, offset, open_at};
+use operands::{cut, keep, load, narrow_value, offset, open_at};
 
 /// How far a signed index moves the address.
 fn bit_distance(size: Size, index: u32) -> u64
@@ -50,6 +51,7 @@ fn bit_offset(regs: &Regs, mem: &Mem, named: &Operand, size: Size, index: u32) -
 
 /// The word or doubleword that has the bit.
 fn bit_read<L: Linear>(regs: &Regs, lin: &mut L, insn: &Insn, index: u32) -> Result<u32, Fault>
+    requires memory { is_memory insn.now.a ≡ true }
     requires form { IsOf insn.now.size insn.now.a }
     requires address { HasAddress insn.now.a }
     requires index { index < bound_of insn.now.size }
@@ -63,12 +65,13 @@ fn bit_read<L: Linear>(regs: &Regs, lin: &mut L, insn: &Insn, index: u32) -> Res
             let offset = bit_offset(regs, mem, &insn.b, insn.size, index);
             load(regs, lin, mem.seg, offset, insn.size)
         }
-        _ => Err(no_such()),
+        _ => unreachable!(),
     }
 }
 
 /// Its place, where it is read and then written.
 fn bit_open<L: Linear>(regs: &Regs, lin: &mut L, insn: &Insn, index: u32) -> Result<Place, Fault>
+    requires memory { is_memory insn.now.a ≡ true }
     requires form { IsOf insn.now.size insn.now.a }
     requires address { HasAddress insn.now.a }
     requires index { index < bound_of insn.now.size }
@@ -85,7 +88,7 @@ fn bit_open<L: Linear>(regs: &Regs, lin: &mut L, insn: &Insn, index: u32) -> Res
             let offset = bit_offset(regs, mem, &insn.b, insn.size, index);
             open_at(regs, lin, mem.seg, offset, insn.size)
         }
-        _ => Err(no_such()),
+        _ => unreachable!(),
     }
 }
 

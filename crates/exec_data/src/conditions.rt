@@ -1,12 +1,13 @@
 //! SETcc.
 
-ghost use Rattle.std.specs.Prelude.{◌≡◌, OnErr};
+ghost use Rattle.std.specs.Prelude.{◌≡◌, true, OnErr};
 ghost use Rattle.mdl_state.specs.declared.Size.TheVariants.{B1};
 ghost use Rattle.mdl_state.specs.Serving.{by_pick};
 ghost use Rattle.mdl_state.specs.Accesses.{Keeps, HasRoom};
 ghost use Rattle.mdl_state.specs.Attempt.{tried};
 ghost use Rattle.mdl_cpu.specs.Addresses.{HasAddress};
 ghost use Rattle.mdl_effect.specs.Operands.{follow};
+ghost use Rattle.mdl_effect.specs.Kinds.{is_place};
 ghost use Rattle.mdl_effect.specs.Forms.{IsOf};
 ghost use Rattle.mdl_effect.specs.Conditions.{set_plan};
 ghost use Rattle.operands.specs.Whole.{whole, after, IsPlainOf, KeepsOther};
@@ -38,6 +39,7 @@ pub(crate) fn set_memory<L: Linear>(
     insn: &Insn,
     number: u8,
 ) -> Result<(), Fault>
+    requires place { is_place insn.now.a ≡ true }
     requires a { IsOf B1 insn.now.a }
     requires address { HasAddress insn.now.a }
     requires room { HasRoom (L.seen lin.old) 4 }

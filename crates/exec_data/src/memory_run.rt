@@ -1,7 +1,6 @@
 //! Instructions with an operand that is no register and no number.
 
-ghost use Rattle.std.specs.Prelude.{◌≡◌, ◌≢◌, ◌&&◌, ℕ, true, false, OnErr};
-ghost use Rattle.mdl_state.specs.declared.Size.TheVariants.{B1};
+ghost use Rattle.std.specs.Prelude.{◌≡◌, ◌&&◌, ℕ, true, false, OnErr};
 ghost use Rattle.mdl_state.specs.Serving.{by_pick};
 ghost use Rattle.mdl_state.specs.Accesses.{Keeps, HasRoom};
 ghost use Rattle.mdl_state.specs.Attempt.{tried};
@@ -9,8 +8,8 @@ ghost use Rattle.mdl_cpu.specs.Addresses.{HasAddress, HasAddresses};
 ghost use Rattle.mdl_cpu.specs.Segments.{has_protection};
 ghost use Rattle.mdl_effect.specs.Operands.{is_plain, is_nothing, is_segment};
 ghost use Rattle.mdl_effect.specs.Moves.{mov_plan};
-ghost use Rattle.mdl_effect.specs.DataEffects.{is_data, runs_data, data_effect};
-ghost use Rattle.mdl_effect.specs.DataEffects.{is_plain_data};
+ghost use Rattle.mdl_effect.specs.Kinds.{is_memory};
+ghost use Rattle.mdl_effect.specs.DataEffects.{is_data, is_special, runs_data, is_plain_data, data_effect};
 ghost use Rattle.mdl_effect.specs.Forms.{IsFormed, IsMove};
 ghost use Rattle.operands.specs.Whole.{whole, after, ran};
 ghost use Rattle.exec_data.specs.Places.{placed, is_placed};
@@ -42,6 +41,7 @@ fn run_changed<L: Linear>(regs: &mut Regs, flags: &mut Flags, lin: &mut L, insn:
     requires other { is_move insn.now.op ≡ false }
     requires formed { IsFormed insn.now }
     requires a { is_plain insn.now.a ≡ false }
+    requires memory { is_memory insn.now.a ≡ true }
     requires b { is_plain insn.now.b ≡ true }
     requires c { is_plain insn.now.c ≡ true }
     requires placed { placed insn.now.op false true (is_nothing insn.now.b) ≡ true }
@@ -70,7 +70,7 @@ fn run_changed<L: Linear>(regs: &mut Regs, flags: &mut Flags, lin: &mut L, insn:
 }
 
 /// The instruction by which of its operands is memory.
-#[tactic(auto, using(crate::proofs::PlaceLaws::places))]
+#[tactic(auto, using(crate::proofs::PlaceLaws::places, crate::proofs::Memories::memories))]
 fn run_data<L: Linear>(
     regs: &mut Regs,
     flags: &mut Flags,
@@ -97,10 +97,12 @@ fn run_data<L: Linear>(
 }
 
 /// MOV of which the first operand is no segment register.
+#[tactic(auto, using(crate::proofs::MoveLaws::operands_of_moves))]
 fn move_out<L: Linear>(regs: &mut Regs, lin: &mut L, insn: &Insn) -> Result<Next, Fault>
     requires form { IsMove insn.now.a insn.now.b insn.now.size }
-    requires wide { is_segment insn.now.b ≡ true → insn.now.size ≢ B1 }
     requires a { is_segment insn.now.a ≡ false }
+    requires special_a { is_special insn.now.a ≡ false }
+    requires special_b { is_special insn.now.b ≡ false }
     requires memory { (is_plain insn.now.a && is_plain insn.now.b) ≡ false }
     requires address_a { HasAddress insn.now.a }
     requires address_b { HasAddress insn.now.b }
@@ -121,7 +123,8 @@ fn move_out<L: Linear>(regs: &mut Regs, lin: &mut L, insn: &Insn) -> Result<Next
 fn run_move<L: Linear>(regs: &mut Regs, lin: &mut L, insn: &Insn) -> Result<Next, Fault>
     requires mode { has_protection regs.old ≡ false }
     requires form { IsMove insn.now.a insn.now.b insn.now.size }
-    requires wide { is_segment insn.now.b ≡ true → insn.now.size ≢ B1 }
+    requires special_a { is_special insn.now.a ≡ false }
+    requires special_b { is_special insn.now.b ≡ false }
     requires memory { (is_plain insn.now.a && is_plain insn.now.b) ≡ false }
     requires address_a { HasAddress insn.now.a }
     requires address_b { HasAddress insn.now.b }
@@ -138,7 +141,7 @@ fn run_move<L: Linear>(regs: &mut Regs, lin: &mut L, insn: &Insn) -> Result<Next
 }
 
 /// The instruction by its mnemonic, where that takes memory or a segment register alone.
-#[tactic(auto, unfolding(mdl_effect::specs::DataEffects::data_effect))]
+#[tactic(auto, using(crate::proofs::Memories::segment_popped), unfolding(mdl_effect::specs::DataEffects::data_effect))]
 fn run_address<L: Linear>(regs: &mut Regs, lin: &mut L, insn: &Insn) -> Result<Next, Fault>
     requires mode { has_protection regs.old ≡ false }
     requires data { is_data insn.now.op ≡ false }
@@ -179,7 +182,7 @@ pub(crate) fn run_memory<L: Linear>(
     requires runs { runs_data insn.now ≡ true }
     requires memory { is_plain_data insn.now ≡ false }
     requires formed { IsFormed insn.now }
-    requires placed { is_data insn.now.op ≡ true → (is_placed insn.now ≡ true) × (is_segment insn.now.b ≡ true → insn.now.size ≢ B1) }
+    requires placed { is_data insn.now.op ≡ true → is_placed insn.now ≡ true }
     requires addresses { HasAddresses insn.now }
     requires room { HasRoom (L.seen lin.old) 4 }
     ensures run { (ran result (whole regs.new flags.new), L.seen lin.new)

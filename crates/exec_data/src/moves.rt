@@ -1,12 +1,13 @@
 //! Moves and extensions.
 
-ghost use Rattle.std.specs.Prelude.{◌≡◌, ◌<◌, ◌≤◌, ℕ, OnErr};
+ghost use Rattle.std.specs.Prelude.{◌≡◌, ◌<◌, ◌≤◌, ℕ, true, OnErr};
 ghost use Rattle.mdl_state.specs.Bytes.{bound_of, bytes_of};
 ghost use Rattle.mdl_state.specs.Serving.{by_pick};
 ghost use Rattle.mdl_state.specs.Accesses.{Keeps, HasRoom};
 ghost use Rattle.mdl_state.specs.Attempt.{tried};
 ghost use Rattle.mdl_cpu.specs.Addresses.{HasAddress};
 ghost use Rattle.mdl_effect.specs.Operands.{follow, writing};
+ghost use Rattle.mdl_effect.specs.Kinds.{is_place, is_value};
 ghost use Rattle.mdl_effect.specs.Forms.{IsOf};
 ghost use Rattle.mdl_effect.specs.Moves.{sign_extended, move_plan, sign_extend_plan, exchange_plan, half_size, widen_plan, sign_plan};
 ghost use Rattle.operands.specs.Whole.{whole, after, IsPlainOf, IsPlainWithin, KeepsOther};
@@ -129,7 +130,7 @@ pub(crate) fn sign(regs: &mut Regs, insn: &Insn)
 }
 
 /// A number put where an operand says.
-#[tactic(auto, using(mdl_state::specs::Rules::attempts))]
+#[tactic(auto, using(mdl_state::specs::Rules::attempts, operands::proofs::OperandKinds::kinds))]
 pub(crate) fn put<L: Linear>(
     regs: &mut Regs,
     lin: &mut L,
@@ -137,6 +138,7 @@ pub(crate) fn put<L: Linear>(
     size: Size,
     value: u32,
 ) -> Result<(), Fault>
+    requires place { is_place operand.now ≡ true }
     requires form { IsOf size operand.now }
     requires address { HasAddress operand.now }
     requires bound { value < bound_of size }
@@ -156,8 +158,10 @@ pub(crate) fn put<L: Linear>(
 }
 
 /// MOV from memory or to it.
-#[tactic(auto, using(mdl_state::specs::Rules::attempts), unfolding(mdl_effect::specs::Moves::move_plan))]
+#[tactic(auto, using(mdl_state::specs::Rules::attempts, operands::proofs::OperandKinds::kinds), unfolding(mdl_effect::specs::Moves::move_plan))]
 pub(crate) fn move_memory<L: Linear>(regs: &mut Regs, lin: &mut L, insn: &Insn) -> Result<(), Fault>
+    requires place { is_place insn.now.a ≡ true }
+    requires value { is_value insn.now.b ≡ true }
     requires a { IsOf insn.now.size insn.now.a }
     requires b { IsOf insn.now.size insn.now.b }
     requires address_a { HasAddress insn.now.a }

@@ -6,6 +6,7 @@ ghost use Rattle.mdl_state.specs.Accesses.{Keeps};
 ghost use Rattle.mdl_state.specs.Attempt.{tried};
 ghost use Rattle.mdl_cpu.specs.Addresses.{HasAddress};
 ghost use Rattle.mdl_effect.specs.Operands.{is_plain, is_nothing};
+ghost use Rattle.mdl_effect.specs.Kinds.{is_memory};
 ghost use Rattle.mdl_effect.specs.DataEffects.{data_effect};
 ghost use Rattle.mdl_effect.specs.Forms.{IsFormed};
 ghost use Rattle.operands.specs.Whole.{whole, after};
@@ -50,6 +51,7 @@ pub(crate) fn run_second<L: Linear>(
     requires formed { IsFormed insn.now }
     requires a { is_plain insn.now.a ≡ true }
     requires b { is_plain insn.now.b ≡ false }
+    requires memory { is_memory insn.now.b ≡ true }
     requires c { is_plain insn.now.c ≡ true }
     requires address { HasAddress insn.now.b }
     ensures run { (after result (whole regs.new flags.new), L.seen lin.new)
@@ -74,6 +76,7 @@ pub(crate) fn run_first<L: Linear>(
     requires reads { reads_first insn.now.op (is_nothing insn.now.b) ≡ true }
     requires formed { IsFormed insn.now }
     requires a { is_plain insn.now.a ≡ false }
+    requires memory { is_memory insn.now.a ≡ true }
     requires b { is_plain insn.now.b ≡ true }
     requires c { is_plain insn.now.c ≡ true }
     requires address { HasAddress insn.now.a }

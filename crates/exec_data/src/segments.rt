@@ -1,6 +1,6 @@
 //! Moves and pops of segment registers.
 
-ghost use Rattle.std.specs.Prelude.{◌≡◌, ◌≢◌, ◌<◌, ◌^◌, ℕ, false, OnErr};
+ghost use Rattle.std.specs.Prelude.{◌≡◌, ◌≢◌, ◌<◌, ◌^◌, ℕ, true, false, OnErr};
 ghost use Rattle.mdl_state.specs.declared.Size.TheVariants.{B1, B2};
 ghost use Rattle.mdl_state.specs.Registers.{seg_of};
 ghost use Rattle.mdl_state.specs.Serving.{by_pick};
@@ -10,6 +10,8 @@ ghost use Rattle.mdl_cpu.specs.Addresses.{HasAddress};
 ghost use Rattle.mdl_cpu.specs.Segments.{has_protection};
 ghost use Rattle.mdl_cpu.specs.Loads.{load_plan, answered};
 ghost use Rattle.mdl_effect.specs.Moves.{after_load, load_segment_plan, store_segment_plan, pop_segment_plan};
+ghost use Rattle.mdl_effect.specs.Operands.{is_segment};
+ghost use Rattle.mdl_effect.specs.Kinds.{is_place};
 ghost use Rattle.mdl_effect.specs.Forms.{IsOf};
 ghost use Rattle.operands.specs.Whole.{whole, after, ran, KeepsOther};
 
@@ -17,7 +19,7 @@ use desc_load::{load_data, load_stack};
 use mdl_insn::{Insn, Operand};
 use mdl_state::{Fault, Next, Regs, Seg, Size};
 use mem_iface::Linear;
-use operands::{is_plain, no_such, pop, read_sized, set_reg, value, write};
+use operands::{is_plain, pop, read_sized, set_reg, value, write};
 use seg_unit::segment;
 
 /// A load of a segment register.
@@ -51,7 +53,7 @@ fn after_load(seg: Seg) -> Next
 }
 
 /// MOV to a segment register.
-#[tactic(auto, using(mdl_state::specs::Rules::attempts), unfolding(mdl_effect::specs::Moves::load_segment_plan))]
+#[tactic(auto, using(mdl_state::specs::Rules::attempts, operands::proofs::OperandKinds::kinds), unfolding(mdl_effect::specs::Moves::load_segment_plan))]
 pub(crate) fn move_to_segment<L: Linear>(
     regs: &mut Regs,
     lin: &mut L,
@@ -59,6 +61,7 @@ pub(crate) fn move_to_segment<L: Linear>(
     seg: Seg,
 ) -> Result<Next, Fault>
     requires mode { has_protection regs.old ≡ false }
+    requires place { is_place insn.now.b ≡ true }
     requires b { IsOf B2 insn.now.b }
     requires address { HasAddress insn.now.b }
     requires room { HasRoom (L.seen lin.old) 1 }
@@ -87,7 +90,7 @@ fn selector(regs: &Regs, seg: Seg) -> u32
 }
 
 /// MOV from a segment register: a doubleword register is zero extended, and memory gets a word.
-#[tactic(auto, using(mdl_state::specs::Rules::attempts), unfolding(mdl_effect::specs::Moves::store_segment_plan))]
+#[tactic(auto, using(mdl_state::specs::Rules::attempts, operands::proofs::OperandKinds::kinds), unfolding(mdl_effect::specs::Moves::store_segment_plan))]
 pub(crate) fn move_from_segment<L: Linear>(
     regs: &mut Regs,
     lin: &mut L,
@@ -95,6 +98,7 @@ pub(crate) fn move_from_segment<L: Linear>(
     seg: Seg,
 ) -> Result<(), Fault>
     requires size { insn.now.size ≢ B1 }
+    requires place { is_place insn.now.a ≡ true }
     requires a { IsOf B2 insn.now.a }
     requires address { HasAddress insn.now.a }
     requires room { HasRoom (L.seen lin.old) 4 }
@@ -110,7 +114,6 @@ pub(crate) fn move_from_segment<L: Linear>(
             set_reg(regs, *n, insn.size, sel);
             Ok(())
         }
-        Operand::Nothing | Operand::Imm(_, _) => Ok(()),
         _ => {
             write(regs, lin, &insn.a, Size::B2, sel)?;
             Ok(())
@@ -126,6 +129,7 @@ pub(crate) fn pop_segment<L: Linear>(
     insn: &Insn,
 ) -> Result<Next, Fault>
     requires mode { has_protection regs.old ≡ false }
+    requires segment { is_segment insn.now.a ≡ true }
     requires room { HasRoom (L.seen lin.old) 1 }
     ensures run { (flags : ℕ) → (ran result (whole regs.new flags), L.seen lin.new)
         ≡ tried (by_pick L.pick) 0 (pop_segment_plan insn.now (whole regs.old flags)) (L.seen lin.old) }
@@ -133,7 +137,7 @@ pub(crate) fn pop_segment<L: Linear>(
     ensures keeps { Keeps (L.seen lin.old) (L.seen lin.new) }
 {
     let Operand::Sreg(seg) = insn.a else {
-        return Err(no_such());
+        unreachable!();
     };
     let mut popped = *regs;
     let value = pop(&mut popped, lin, insn.size)?;

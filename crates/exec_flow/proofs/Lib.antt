@@ -2,4 +2,3 @@ pub mod Targets
 pub mod Direction
 pub mod Levels
 pub mod Orders
-pub mod NearLaws

@@ -14,7 +14,8 @@ use Rattle.mdl_insn.specs.declared.instruction.Operand.{Operand}
 use Rattle.mdl_insn.specs.declared.instruction.Operand.TheVariants.{Rel}
 use Rattle.mdl_effect.specs.Operands.{After, reading}
 use Rattle.mdl_effect.specs.Jumps.{target_by}
-use Rattle.exec_flow.specs.Near.{is_relative, displacement_of}
+use Rattle.mdl_effect.specs.Kinds.{is_relative}
+use Rattle.exec_flow.specs.Near.{displacement_of}
 
 -- a branch with a displacement
 pub near_target : (a : Operand) (size : Size) (r : Regs) (back : ℕ) (k : ℕ → Plan After) → is_relative a ≡ true

@@ -1,12 +1,13 @@
 //! Near calls: CALL and RET. Both set registers after their last check.
 
-ghost use Rattle.std.specs.Prelude.{◌≡◌, ℕ, OnErr};
+ghost use Rattle.std.specs.Prelude.{◌≡◌, ℕ, true, OnErr};
 ghost use Rattle.mdl_state.specs.declared.Size.TheVariants.{B2};
 ghost use Rattle.mdl_state.specs.Serving.{by_pick};
 ghost use Rattle.mdl_state.specs.Accesses.{Keeps, HasRoom};
 ghost use Rattle.mdl_state.specs.Attempt.{tried};
 ghost use Rattle.mdl_cpu.specs.Addresses.{HasAddress};
 ghost use Rattle.mdl_effect.specs.Jumps.{call_plan, return_plan};
+ghost use Rattle.mdl_effect.specs.Kinds.{is_target};
 ghost use Rattle.mdl_effect.specs.Forms.{IsOf};
 ghost use Rattle.operands.specs.Whole.{whole, ran};
 
@@ -25,6 +26,7 @@ pub(crate) fn call<L: Linear>(
     insn: &Insn,
     back: u32,
 ) -> Result<Next, Fault>
+    requires target { is_target insn.now.a ≡ true }
     requires form { IsOf insn.now.size insn.now.a }
     requires address { HasAddress insn.now.a }
     requires room { HasRoom (L.seen lin.old) 4 }

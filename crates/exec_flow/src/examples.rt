@@ -2,7 +2,8 @@
 //! from the manual's descriptions in chapter 17.
 
 ghost use Rattle.std.specs.Prelude.{◌≡◌, true};
-ghost use Rattle.exec_flow.specs.Near.{is_branch, is_relative};
+ghost use Rattle.mdl_effect.specs.Kinds.{is_relative};
+ghost use Rattle.exec_flow.specs.Near.{is_branch};
 ghost use Rattle.exec_flow.specs.Followed.{is_flag};
 
 use crate::instructions::{run_branch, run_flag};

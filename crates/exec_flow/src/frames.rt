@@ -17,8 +17,7 @@ use mdl_num::{bound, low};
 use mdl_state::{Fault, Next, Regs, Seg, Size};
 use mem_iface::{Linear, bytes_of};
 use operands::{
-    FRAME, STACK, below_top, load, pop, push, reg, set_reg, set_top, stack_size, stack_top,
-    value,
+    FRAME, STACK, below_top, load, pop, push, reg, set_reg, set_top, stack_size, stack_top, value,
 };
 use seg_unit::check;
 

@@ -9,9 +9,10 @@ ghost use Rattle.mdl_state.specs.Attempt.{tried};
 ghost use Rattle.mdl_cpu.specs.Addresses.{HasAddress};
 ghost use Rattle.mdl_effect.specs.FlowEffects.{is_flow, is_pop, runs_flow, flow_effect};
 ghost use Rattle.mdl_cpu.specs.Steady.{Steady};
+ghost use Rattle.mdl_effect.specs.Kinds.{is_relative};
 ghost use Rattle.mdl_effect.specs.Forms.{IsFormed};
 ghost use Rattle.operands.specs.Whole.{whole, ran};
-ghost use Rattle.exec_flow.specs.Near.{is_branch, is_relative, IsNear};
+ghost use Rattle.exec_flow.specs.Near.{is_branch};
 ghost use Rattle.exec_flow.specs.Followed.{is_flag, followed};
 
 use crate::calls::{call, return_near};
@@ -101,11 +102,10 @@ pub(crate) fn run_flag(regs: &mut Regs, flags: &mut Flags, insn: &Insn)
 
 /// An instruction whose operands have the form of its mnemonic.
 #[rattlefmt::skip]
-#[tactic(auto, unfolding(mdl_effect::specs::FlowEffects::flow_effect))]
+#[tactic(auto, using(operands::proofs::OperandKinds::kinds), unfolding(mdl_effect::specs::FlowEffects::flow_effect))]
 fn run_formed<L: Linear>(regs: &mut Regs, flags: &mut Flags, lin: &mut L, insn: &Insn, back: u32) -> Result<Next, Fault>
-    requires flow { is_flow insn.now.op ≡ true }
+    requires runs { runs_flow insn.now ≡ true }
     requires formed { IsFormed insn.now }
-    requires near { IsNear insn.now }
     requires address { HasAddress insn.now.a }
     requires room { HasRoom (L.seen lin.old) 128 }
     ensures run { (ran result (whole regs.new flags.new), L.seen lin.new)

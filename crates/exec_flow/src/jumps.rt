@@ -11,9 +11,10 @@ ghost use Rattle.mdl_state.specs.Attempt.{Plan, tried};
 ghost use Rattle.mdl_cpu.specs.Addresses.{HasAddress};
 ghost use Rattle.mdl_effect.specs.Operands.{After, reading};
 ghost use Rattle.mdl_effect.specs.Jumps.{landing, target_by, branching, jump_plan, jump_if_plan};
+ghost use Rattle.mdl_effect.specs.Kinds.{is_relative, is_value, is_target};
 ghost use Rattle.mdl_effect.specs.Forms.{IsOf};
 ghost use Rattle.operands.specs.Whole.{whole, ran};
-ghost use Rattle.exec_flow.specs.Near.{is_relative, displacement_of};
+ghost use Rattle.exec_flow.specs.Near.{displacement_of};
 
 use lazy_flags::Flags;
 use mdl_insn::{Insn, Operand};
@@ -72,13 +73,14 @@ pub(crate) fn displaced(insn: &Insn, back: u32) -> u32
 }
 
 /// The number of an operand, in a register or in memory.
-#[tactic(auto, using(mdl_state::specs::Rules::attempts))]
+#[tactic(auto, using(mdl_state::specs::Rules::attempts, operands::proofs::OperandKinds::kinds))]
 pub(crate) fn number<L: Linear>(
     regs: &Regs,
     lin: &mut L,
     operand: &Operand,
     size: Size,
 ) -> Result<u32, Fault>
+    requires value { is_value operand.now ≡ true }
     requires form { IsOf size operand.now }
     requires address { HasAddress operand.now }
     ensures run { (flags : ℕ) (k : ℕ → Plan After) →
@@ -95,13 +97,14 @@ pub(crate) fn number<L: Linear>(
 }
 
 /// Where JMP and CALL lead.
-#[tactic(auto, using(crate::proofs::Targets::targets))]
+#[tactic(auto, using(crate::proofs::Targets::targets, operands::proofs::OperandKinds::kinds))]
 pub(crate) fn target<L: Linear>(
     regs: &Regs,
     lin: &mut L,
     insn: &Insn,
     back: u32,
 ) -> Result<u32, Fault>
+    requires target { is_target insn.now.a ≡ true }
     requires form { IsOf insn.now.size insn.now.a }
     requires address { HasAddress insn.now.a }
     ensures run { (flags : ℕ) (k : ℕ → Plan After) →
@@ -124,6 +127,7 @@ pub(crate) fn jump<L: Linear>(
     insn: &Insn,
     back: u32,
 ) -> Result<Next, Fault>
+    requires target { is_target insn.now.a ≡ true }
     requires form { IsOf insn.now.size insn.now.a }
     requires address { HasAddress insn.now.a }
     ensures run { (flags : ℕ) → (ran result (whole regs.new flags), L.seen lin.new)

@@ -5,8 +5,8 @@ ghost use Rattle.mdl_state.specs.State.{Mem};
 ghost use Rattle.mdl_state.specs.Serving.{Serve};
 ghost use Rattle.mdl_state.specs.Attempt.{tried};
 ghost use Rattle.mdl_effect.specs.Jumps.{loop_plan, jump_if_none_plan};
+ghost use Rattle.mdl_effect.specs.Kinds.{is_relative};
 ghost use Rattle.operands.specs.Whole.{whole, ran};
-ghost use Rattle.exec_flow.specs.Near.{is_relative};
 
 use crate::jumps::branch;
 use mdl_insn::Insn;

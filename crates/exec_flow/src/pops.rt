@@ -1,6 +1,6 @@
 //! POP and POPA.
 
-ghost use Rattle.std.specs.Prelude.{◌≡◌, ◌<◌, ℕ, All, OnErr};
+ghost use Rattle.std.specs.Prelude.{◌≡◌, ◌<◌, ℕ, true, All, OnErr};
 ghost use Rattle.mdl_state.specs.Bytes.{bound_of};
 ghost use Rattle.mdl_state.specs.Serving.{by_pick};
 ghost use Rattle.mdl_state.specs.Accesses.{Keeps, HasRoom};
@@ -8,6 +8,7 @@ ghost use Rattle.mdl_state.specs.Attempt.{tried};
 ghost use Rattle.mdl_cpu.specs.Addresses.{HasAddress};
 ghost use Rattle.mdl_cpu.specs.Loads.{answered};
 ghost use Rattle.mdl_effect.specs.StackEffects.{pop_operand_plan, popped_into, pop_all, popa_plan};
+ghost use Rattle.mdl_effect.specs.Kinds.{is_place};
 ghost use Rattle.mdl_effect.specs.Forms.{IsOf};
 ghost use Rattle.operands.specs.Whole.{whole, ran};
 
@@ -32,12 +33,13 @@ const POPPED: [u8; 8] = [
 ];
 
 /// POP but of a segment register. The address of an operand in memory has the new stack pointer.
-#[tactic(auto, using(mdl_state::specs::Rules::attempts), unfolding(mdl_effect::specs::StackEffects::pop_operand_plan))]
+#[tactic(auto, using(mdl_state::specs::Rules::attempts, operands::proofs::OperandKinds::kinds), unfolding(mdl_effect::specs::StackEffects::pop_operand_plan))]
 pub(crate) fn pop_operand<L: Linear>(
     regs: &mut Regs,
     lin: &mut L,
     insn: &Insn,
 ) -> Result<Next, Fault>
+    requires place { is_place insn.now.a ≡ true }
     requires form { IsOf insn.now.size insn.now.a }
     requires address { HasAddress insn.now.a }
     requires room { HasRoom (L.seen lin.old) 4 }

@@ -1,6 +1,6 @@
 //! PUSH and PUSHA.
 
-ghost use Rattle.std.specs.Prelude.{◌≡◌, ◌≢◌, ◌<◌, ◌*◌, ◌^◌, ℕ, All, length, OnErr};
+ghost use Rattle.std.specs.Prelude.{◌≡◌, ◌≢◌, ◌<◌, ◌*◌, ◌^◌, ℕ, true, All, length, OnErr};
 ghost use Rattle.mdl_state.specs.declared.Size.TheVariants.{B1};
 ghost use Rattle.mdl_state.specs.Serving.{by_pick};
 ghost use Rattle.mdl_state.specs.Accesses.{Keeps, HasRoom};
@@ -9,6 +9,7 @@ ghost use Rattle.mdl_cpu.specs.Addresses.{HasAddress};
 ghost use Rattle.mdl_cpu.specs.Loads.{answered};
 ghost use Rattle.mdl_effect.specs.Operands.{is_segment};
 ghost use Rattle.mdl_effect.specs.StackEffects.{push_operand_plan, push_all, pusha_plan};
+ghost use Rattle.mdl_effect.specs.Kinds.{is_pushed};
 ghost use Rattle.mdl_effect.specs.Forms.{IsOf};
 ghost use Rattle.operands.specs.Whole.{whole, ran};
 ghost use Rattle.exec_flow.specs.Stacked.{selector_of, numbers_of};
@@ -55,13 +56,14 @@ fn selector(regs: &Regs, operand: &Operand) -> u32
 }
 
 /// PUSH. Its operand is read before the stack pointer moves.
-#[tactic(auto, using(mdl_state::specs::Rules::attempts, crate::proofs::Orders::pushes))]
+#[tactic(auto, using(mdl_state::specs::Rules::attempts, crate::proofs::Orders::pushes, operands::proofs::OperandKinds::kinds))]
 pub(crate) fn push_operand<L: Linear>(
     regs: &mut Regs,
     lin: &mut L,
     insn: &Insn,
 ) -> Result<Next, Fault>
     requires size { insn.now.size ≢ B1 }
+    requires pushed { is_pushed insn.now.a ≡ true }
     requires form { IsOf insn.now.size insn.now.a }
     requires address { HasAddress insn.now.a }
     requires room { HasRoom (L.seen lin.old) 4 }

@@ -11,3 +11,4 @@ pub mod FlowEffects
 pub mod StringEffects
 pub mod Kinds
 pub mod Forms
+pub mod Ways

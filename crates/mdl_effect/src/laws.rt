@@ -1,12 +1,28 @@
 //! The laws of what instructions do. Each function states one and does nothing.
 
-ghost use Rattle.std.specs.Prelude.{ℕ, Bool, List};
+ghost use Rattle.std.specs.Prelude.{ℕ, Bool, List, IsTrue};
+ghost use Rattle.mdl_state.specs.declared.Regs.{Regs};
 ghost use Rattle.mdl_insn.specs.Spelling.{Spelt};
 ghost use Rattle.mdl_insn.specs.declared.instruction.Insn.{Insn};
+ghost use Rattle.mdl_effect.specs.DataEffects.{runs_data, data_effect};
+ghost use Rattle.mdl_effect.specs.FlowEffects.{runs_flow, flow_effect};
+ghost use Rattle.mdl_effect.specs.StringEffects.{runs_string, string_plan};
 ghost use Rattle.mdl_effect.specs.Forms.{IsFormed};
+ghost use Rattle.mdl_effect.specs.Ways.{IsComplete};
 
 /// An instruction, however it is spelt, has the operands that its mnemonic takes. So what computes it
 /// from decoded bytes needs no answer for others.
 pub fn operands_have_the_form_of_their_mnemonic()
     ensures { (bytes : List ℕ) (big : Bool) (insn : Insn) → Spelt bytes big insn → IsFormed insn }
+{}
+
+/// No way through the plan of an instruction that some bytes spell fails as if there were none, and
+/// each that passes leaves the mode.
+pub fn instructions_come_to_no_missing_row()
+    ensures of_data { (bytes : List ℕ) (big : Bool) (insn : Insn) (r : Regs) (free : ℕ)
+        → Spelt bytes big insn → IsTrue (runs_data insn) → IsComplete r (data_effect insn r free) }
+    ensures of_flow { (bytes : List ℕ) (big : Bool) (insn : Insn) (r : Regs) (back : ℕ)
+        → Spelt bytes big insn → IsTrue (runs_flow insn) → IsComplete r (flow_effect insn r back) }
+    ensures of_string { (bytes : List ℕ) (big : Bool) (insn : Insn) (r : Regs) (free : ℕ)
+        → Spelt bytes big insn → IsTrue (runs_string insn.op) → IsComplete r (string_plan insn r free) }
 {}

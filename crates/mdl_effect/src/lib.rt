@@ -9,4 +9,4 @@
 
 mod laws;
 
-pub use laws::operands_have_the_form_of_their_mnemonic;
+pub use laws::{instructions_come_to_no_missing_row, operands_have_the_form_of_their_mnemonic};

@@ -1,3 +1,4 @@
 pub mod Statuses
 pub mod Modes
 pub mod Steadies
+pub mod OperandKinds

@@ -2,20 +2,18 @@
 use Rattle.std.proofs.Common.{◌≡◌, ◌≢◌, ℕ, refl, sym, ◌∙◌, ap, arith, inl, inr, Bool, false, zero, suc, ◌<◌}
 use mathlib.Core.Bool.{beq}
 use Rattle.std.specs.Prelude.{◌==◌, not}
-use Rattle.std.specs.Int.{bit_at, from_bool}
+use Rattle.std.specs.Int.{bit_at}
 use Rattle.std.proofs.lemmas.Bool.{cases_eq}
-use Rattle.std.proofs.lemmas.Bool.Decides.{nat_tests}
 use Rattle.std.proofs.lemmas.Nat.Bits.{bit_at-lt, same_from_bits}
 use Rattle.mdl_state.specs.declared.Size.{Size}
 use Rattle.mdl_num.specs.Flags.{is_set, flags_after, untouched_status}
 use Rattle.mdl_num.specs.Sums.{sum_status, difference_status, logic_status, increment_status, decrement_status}
 use Rattle.mdl_num.specs.declared.status.Status.{Status}
 use Rattle.mdl_num.specs.declared.status.TheConstants.{CF, PF, AF, ZF, SF, OF}
-use Rattle.mdl_num.proofs.Places.{bit_at-with_bit, bit_at-with_bit_other, from_bool-lt}
 use Rattle.mdl_num.proofs.FlagLemmas.{bit_at-flags_after}
-use Rattle.lazy_flags.specs.Keeper.{copied, with_status, operation_status}
+use Rattle.lazy_flags.specs.Keeper.{with_status, operation_status}
 use Rattle.lazy_flags.specs.declared.operation.FlagOp.TheVariants.{Add, AddCarry, Sub, SubBorrow, Logic, Inc, Dec}
-use Rattle.lazy_flags.proofs.Packing.{from_bool-is_set, copied_own, copied_other, with_status-operation, with_status-increment, with_status-decrement}
+use Rattle.lazy_flags.proofs.Packing.{copied_own, copied_other, with_status-operation, with_status-increment, with_status-decrement}
 
 -- ---- the bits of packed flags
 

@@ -7,11 +7,11 @@ ghost use Rattle.mdl_state.specs.Accesses.{Keeps, IsPlace, HasRoom};
 ghost use Rattle.mdl_state.specs.Attempt.{tried};
 ghost use Rattle.mdl_cpu.specs.Addresses.{offset_of, IsAddress, HasAddress};
 ghost use Rattle.mdl_effect.specs.Operands.{size_of, Made, memory_read, memory_write, memory_change};
+ghost use Rattle.mdl_effect.specs.Kinds.{is_memory};
 ghost use Rattle.mdl_effect.specs.Forms.{IsOf};
 ghost use Rattle.operands.specs.Whole.{whole};
-ghost use Rattle.operands.specs.Memory.{changed, is_memory};
+ghost use Rattle.operands.specs.Memory.{changed};
 
-use crate::faults::no_such;
 use crate::memory::{load, open_at, store};
 use mdl_insn::{Mem, Operand};
 use mdl_state::{Fault, Place, Regs, Size};
@@ -30,17 +30,17 @@ pub fn offset(regs: &Regs, mem: &Mem) -> u32
 /// The number of a memory operand.
 #[tactic(auto, unfolding(mdl_effect::specs::Operands::memory_read))]
 pub fn read<L: Linear>(regs: &Regs, lin: &mut L, operand: &Operand) -> Result<u32, Fault>
-    requires { HasAddress operand.now }
+    requires memory { is_memory operand.now ≡ true }
+    requires address { HasAddress operand.now }
     ensures run { (flags : ℕ) → (outcome result, L.seen lin.new)
         ≡ tried (by_pick L.pick) 0 (memory_read (whole regs.now flags) operand.now) (L.seen lin.old) }
     ensures bound { IfOk result (λ value. value < bound_of (size_of operand.now)) }
-    ensures memory { IfOk result (λ value. is_memory operand.now ≡ true) }
     ensures keeps { Keeps (L.seen lin.old) (L.seen lin.new) }
     ensures held { (L.seen lin.new).held ≡ (L.seen lin.old).held }
 {
     match operand {
         Operand::At(mem, size) => load(regs, lin, mem.seg, offset(regs, mem), *size),
-        _ => Err(no_such()),
+        _ => unreachable!(),
     }
 }
 
@@ -52,6 +52,7 @@ pub fn read_sized<L: Linear>(
     operand: &Operand,
     size: Size,
 ) -> Result<u32, Fault>
+    requires memory { is_memory operand.now ≡ true }
     requires form { IsOf size operand.now }
     requires address { HasAddress operand.now }
     ensures run { (flags : ℕ) → (outcome result, L.seen lin.new)
@@ -62,7 +63,7 @@ pub fn read_sized<L: Linear>(
 {
     match operand {
         Operand::At(mem, _) => load(regs, lin, mem.seg, offset(regs, mem), size),
-        _ => Err(no_such()),
+        _ => unreachable!(),
     }
 }
 
@@ -75,6 +76,7 @@ pub fn write<L: Linear>(
     size: Size,
     value: u32,
 ) -> Result<(), Fault>
+    requires memory { is_memory operand.now ≡ true }
     requires form { IsOf size operand.now }
     requires address { HasAddress operand.now }
     requires bound { value < bound_of size }
@@ -87,7 +89,7 @@ pub fn write<L: Linear>(
 {
     match operand {
         Operand::At(mem, _) => store(regs, lin, mem.seg, offset(regs, mem), size, value),
-        _ => Err(no_such()),
+        _ => unreachable!(),
     }
 }
 
@@ -99,6 +101,7 @@ pub fn open<L: Linear>(
     operand: &Operand,
     size: Size,
 ) -> Result<Place, Fault>
+    requires memory { is_memory operand.now ≡ true }
     requires form { IsOf size operand.now }
     requires address { HasAddress operand.now }
     ensures passed { IfOk result (λ place. (flags : ℕ) (make : ℕ → Made) →
@@ -111,6 +114,6 @@ pub fn open<L: Linear>(
 {
     match operand {
         Operand::At(mem, _) => open_at(regs, lin, mem.seg, offset(regs, mem), size),
-        _ => Err(no_such()),
+        _ => unreachable!(),
     }
 }

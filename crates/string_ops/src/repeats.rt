@@ -6,7 +6,7 @@ ghost use Rattle.mdl_state.specs.Accesses.{Keeps, HasRoom};
 ghost use Rattle.mdl_state.specs.Attempt.{tried};
 ghost use Rattle.mdl_insn.specs.declared.instruction.Rep.TheVariants.{Equal};
 ghost use Rattle.mdl_effect.specs.StringEffects.{runs_string, compares, is_wanted, goes_on, repeating};
-ghost use Rattle.operands.specs.Whole.{whole, ran};
+ghost use Rattle.operands.specs.Whole.{whole, ran, KeepsOther};
 
 use crate::strings::iterate;
 use lazy_flags::Flags;
@@ -60,6 +60,7 @@ pub(crate) fn repeat<L: Linear>(
     requires room { HasRoom (L.seen lin.old) 4 }
     ensures run { (ran result (whole regs.new flags.new), L.seen lin.new)
         ≡ tried (by_pick L.pick) 0 (repeating Equal insn.now (whole regs.old flags.old) (whole regs.new flags.new).eflags) (L.seen lin.old) }
+    ensures kept { KeepsOther regs.old regs.new }
     ensures unchanged { OnErr result ((regs.new ≡ regs.old) × (flags.new ≡ flags.old)) }
     ensures keeps { Keeps (L.seen lin.old) (L.seen lin.new) }
 {

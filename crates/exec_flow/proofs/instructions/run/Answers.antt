@@ -1,19 +1,28 @@
+use Rattle.mdl_state.specs.Serving.{by_pick}
 use Rattle.mdl_cpu.proofs.AddressLaws.{spelt_addresses}
-use Rattle.mdl_effect.proofs.FormLaws.{spelt_flow}
-use Rattle.exec_flow.proofs.NearLaws.{spelt_near}
+use Rattle.mdl_effect.specs.Ways.{Leaves}
+use Rattle.mdl_effect.proofs.Attempts.{flow_leaves}
+use Rattle.mdl_effect.proofs.FormLaws.{spelt_formed}
+use Rattle.operands.specs.Whole.{whole, ran}
+use Rattle.operands.proofs.Steadies.{ran_steady}
 use Rattle.exec_flow.proofs.instructions.run.Goals as goal
 
 pub run_formed-requires-clause-formed : goal.run_formed-requires-clause-formed
 run_formed-requires-clause-formed g c =
     let spelt = c.requires.spelt in
-    spelt_flow spelt.0 spelt.1 c.args.insn.now spelt.2 c.requires.runs
-
-pub run_formed-requires-clause-near : goal.run_formed-requires-clause-near
-run_formed-requires-clause-near g c =
-    let spelt = c.requires.spelt in
-    spelt_near spelt.0 spelt.1 c.args.insn.now spelt.2
+    spelt_formed spelt.0 spelt.1 c.args.insn.now spelt.2
 
 pub run_formed-requires-clause-address : goal.run_formed-requires-clause-address
 run_formed-requires-clause-address g c =
     let spelt = c.requires.spelt in
     (spelt_addresses spelt.0 spelt.1 c.args.insn.now spelt.2).0
+
+pub returns-clause-steady : goal.returns-clause-steady
+returns-clause-steady g c =
+    let spelt = c.requires.spelt in
+    let old = whole c.args.regs.now c.args.flags.now in
+    let now = c.run_formed in
+    ran_steady (Leaves old) now.result c.args.regs.now now.new.regs c.args.flags.now now.new.flags (λ after leaves. leaves)
+    (flow_leaves spelt.0 spelt.1 c.args.insn.now old c.args.back (by_pick g.L.Linear.pick) 0 (g.L.Linear.seen c.args.lin.now) (g.L.Linear.seen now.new.lin)
+    (ran now.result (whole now.new.regs now.new.flags)) spelt.2 c.requires.runs now.ensures.run)
+    now.ensures.unchanged

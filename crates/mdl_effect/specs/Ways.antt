@@ -1,0 +1,21 @@
+-- What the ways through the plan of an instruction have in common.
+use Rattle.std.specs.Prelude.{◌≢◌}
+use Rattle.mdl_state.specs.declared.Regs.{Regs}
+use Rattle.mdl_state.specs.declared.Fault.{Fault}
+use Rattle.mdl_state.specs.Attempt.{Plan}
+use Rattle.mdl_state.specs.Ends.{Ends}
+use Rattle.mdl_cpu.specs.Steady.{Steady}
+use Rattle.mdl_effect.specs.Operands.{After}
+
+-- the fault is not that of an instruction that is not defined
+abbrev pub IsDefined : Fault → Type 0
+IsDefined fault = fault.vector ≢ 6
+
+-- the instruction leaves the mode
+abbrev pub Leaves : Regs → After → Type 0
+Leaves r after = Steady r after.regs
+
+-- Each way that passes leaves the mode, and no check fails as if the instruction were not defined. So no
+-- way comes to the row that stands where no instruction has such an operand.
+abbrev pub IsComplete : Regs → Plan After → Type 0
+IsComplete r plan = Ends (Leaves r) IsDefined plan
