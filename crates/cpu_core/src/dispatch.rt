@@ -2,7 +2,8 @@
 
 ghost use Rattle.std.specs.Prelude.{◌≡◌, ℕ, Bool, false, List, IfOk, OnErr, []};
 ghost use Rattle.mdl_insn.specs.Spelling.{Spelt};
-ghost use Rattle.mdl_state.specs.Serving.{by_pick};
+ghost use Rattle.mdl_state.specs.State.{Mem};
+ghost use Rattle.mdl_state.specs.Serving.{Serve, by_pick};
 ghost use Rattle.mdl_state.specs.Accesses.{Keeps};
 ghost use Rattle.mdl_state.specs.Attempt.{tried};
 ghost use Rattle.mdl_cpu.specs.Segments.{has_protection};
@@ -44,7 +45,11 @@ fn is_halt(op: Op) -> bool
 }
 
 /// HLT, at privilege level 0 alone.
-fn halt(regs: &Regs) -> Result<Next, Fault> {
+fn halt(regs: &Regs) -> Result<Next, Fault>
+    ensures run { (flags : ℕ) (serve : Serve) (m : Mem) →
+        (ran result (whole regs.now flags), m) ≡ tried serve 0 (halt_plan (whole regs.now flags)) m }
+    ensures ordinary { IfOk result (λ next. IsOrdinary next) }
+{
     if regs.cpl == 0 {
         Ok(Next::Halt)
     } else {

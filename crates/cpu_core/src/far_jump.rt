@@ -1,11 +1,12 @@
 //! JMP to a selector and an offset, in real mode. Manual, chapters 14 and 17.
 
-ghost use Rattle.std.specs.Prelude.{◌≡◌, ℕ, OnErr};
+ghost use Rattle.std.specs.Prelude.{◌≡◌, ℕ, IfOk, OnErr};
 ghost use Rattle.mdl_state.specs.State.{Mem};
 ghost use Rattle.mdl_state.specs.Serving.{Serve};
 ghost use Rattle.mdl_state.specs.Attempt.{tried};
 ghost use Rattle.mdl_state.specs.declared.Seg.TheVariants.{Cs};
 ghost use Rattle.mdl_cpu.specs.Loads.{with_selector};
+ghost use Rattle.mdl_effect.specs.Operands.{IsOrdinary};
 ghost use Rattle.mdl_step.specs.FarEffects.{far_jump_plan};
 ghost use Rattle.operands.specs.Whole.{whole, ran};
 
@@ -35,6 +36,7 @@ pub(crate) fn jump_far(regs: &mut Regs, insn: &Insn) -> Result<Next, Fault>
     ensures run { (flags : ℕ) (serve : Serve) (m : Mem) →
         (ran result (whole regs.new flags), m) ≡ tried serve 0 (far_jump_plan insn.now (whole regs.old flags)) m }
     ensures unchanged { OnErr result (regs.new ≡ regs.old) }
+    ensures ordinary { IfOk result (λ next. IsOrdinary next) }
 {
     let Operand::Far(selector, offset) = insn.a else {
         return Err(no_such());

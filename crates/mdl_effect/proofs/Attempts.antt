@@ -37,7 +37,7 @@ pub answer_leaves : (r : Regs) (serve : Serve) (given : ℕ) (plan : Plan After)
 answer_leaves r serve given plan m n answer h e = subst (λ (w : Outcome After × Mem). IfPassed (Leaves r) w.0) (sym e) (tried_ends (Leaves r) IsDefined serve given plan m h)
 
 pub passed_leaves : (r : Regs) (serve : Serve) (given : ℕ) (plan : Plan After) (m n : Mem) (after : After)
-    → IsComplete r plan → (Passed after, n) ≡ tried serve given plan m → Steady r after.regs
+    → IsComplete r plan → (Passed after, n) ≡ tried serve given plan m → Leaves r after
 passed_leaves r serve given plan m n after h e = answer_leaves r serve given plan m n (Passed after) h e
 
 pub data_leaves : (bytes : List ℕ) (big : Bool) (insn : Insn) (r : Regs) (free : ℕ) (serve : Serve) (given : ℕ) (m n : Mem) (answer : Outcome After)

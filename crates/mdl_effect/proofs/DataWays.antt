@@ -5,6 +5,7 @@ use Rattle.std.specs.Prelude.{not, ◌||◌, if◌then◌else◌, Result, Ok, Er
 use Rattle.mdl_state.specs.declared.Size.{Size}
 use Rattle.mdl_state.specs.declared.Size.TheVariants.{B1, B2}
 use Rattle.mdl_state.specs.declared.Seg.{Seg}
+use Rattle.mdl_state.specs.declared.Seg.TheVariants.{Ss}
 use Rattle.mdl_state.specs.declared.Regs.{Regs}
 use Rattle.mdl_state.specs.Bytes.{bound_of}
 use Rattle.mdl_state.specs.Registers.{reg_of, with_reg}
@@ -23,7 +24,7 @@ use Rattle.mdl_insn.specs.declared.mnemonics.Op.{Op}
 use Rattle.mdl_insn.specs.declared.mnemonics.Op.TheVariants as ops
 use Rattle.mdl_cpu.specs.Loads.{load_plan}
 use Rattle.mdl_cpu.specs.Steady.{Steady}
-use Rattle.mdl_effect.specs.Operands.{After, Made, NoPort, follow, is_plain, is_nothing, size_of, value_of, with_value, with_flags, memory_write, reading, writing, updating}
+use Rattle.mdl_effect.specs.Operands.{After, Made, NoPort, IsOrdinary, follow, is_plain, is_nothing, size_of, value_of, with_value, with_flags, memory_write, reading, writing, updating}
 use Rattle.mdl_effect.specs.Arithmetic.{binary_plan, compare_plan, unary_plan, multiply_plan, signed_multiply_plan, divide_plan, signed_divide_plan, quotient_plan, adjust_plan, digits_plan, from_digits_plan, with_pair, with_product, high_number, divide_error, adjusted, Answer, answer, flagged, binary, unary, signed_answer}
 use Rattle.mdl_effect.specs.Shifts.{shift_plan, double_shift_plan, bit_test_plan, bit_change_plan, bit_read, bit_change, bit_made, bit_place, shifted, scan_plan}
 use Rattle.mdl_effect.specs.Conditions.{set_plan}
@@ -33,7 +34,7 @@ use Rattle.mdl_effect.specs.Kinds.{is_place, is_memory}
 use Rattle.mdl_effect.specs.Forms.{IsMove, IsFormedAs, IsFormed}
 use Rattle.mdl_effect.specs.Ways.{Leaves, IsComplete}
 use Rattle.mdl_effect.proofs.Registers.{stays, then_stays, reg_stays, flags_stay, value_stays}
-use Rattle.mdl_effect.proofs.Operations.{Ways, passes, fails, either_way, is_read, place_read, value_read, direct_read, gpr_read, number_read, maybe_gpr_read, maybe_place_read, maybe_value_read, maybe_number_read, load_then, store_then, pop_then, segment_then, reads, writes, updates, changes_in}
+use Rattle.mdl_effect.proofs.Operations.{follows, Ways, passes, fails, either_way, is_read, place_read, value_read, direct_read, gpr_read, number_read, maybe_gpr_read, maybe_place_read, maybe_value_read, maybe_number_read, load_then, store_then, pop_then, segment_then, reads, writes, updates, changes_in}
 
 -- ---- sums, products and quotients
 
@@ -46,7 +47,7 @@ module _ (insn : Insn) (r : Regs) (free : ℕ) where
   compare_way : is_read insn.a ≡ true → is_read insn.b ≡ true → Ways (Leaves r) (compare_plan insn r free)
   unfolding compare_plan
   compare_way a b = reads r insn.b (λ y. reading r insn.a (λ x. follow (with_flags r (binary insn.op insn.size x y r.eflags).status free))) b (λ y.
-      reads r insn.a (λ x. follow (with_flags r (binary insn.op insn.size x y r.eflags).status free)) a (λ x. passes (flags_stay r (binary insn.op insn.size x y r.eflags).status free)))
+      reads r insn.a (λ x. follow (with_flags r (binary insn.op insn.size x y r.eflags).status free)) a (λ x. follows (flags_stay r (binary insn.op insn.size x y r.eflags).status free)))
 
   unary_way : is_read insn.a ≡ true → Ways (Leaves r) (unary_plan insn r free)
   unfolding unary_plan
@@ -64,13 +65,13 @@ module _ (insn : Insn) (r : Regs) (free : ℕ) where
   multiply_way : is_read insn.a ≡ true → Ways (Leaves r) (multiply_plan insn r free)
   unfolding multiply_plan
   multiply_way a = reads r insn.a (λ x. follow (with_flags (with_product r insn.size (reg_of r 0 insn.size * x)) (mul_status insn.size (reg_of r 0 insn.size) x) free)) a
-      (λ x. passes (product_stays (reg_of r 0 insn.size * x) (mul_status insn.size (reg_of r 0 insn.size) x)))
+      (λ x. follows (product_stays (reg_of r 0 insn.size * x) (mul_status insn.size (reg_of r 0 insn.size) x)))
 
   signed_multiply_way : is_read insn.a ≡ true → is_read insn.b ≡ true → is_read insn.c ≡ true → Ways (Leaves r) (signed_multiply_plan insn r free)
   unfolding signed_multiply_plan
   signed_multiply_way a b c = either_way (is_nothing insn.b)
       (reads r insn.a (λ x. follow (with_flags (with_product r insn.size (imul_word insn.size (reg_of r 0 insn.size) x)) (imul_status insn.size (reg_of r 0 insn.size) x) free)) a
-      (λ x. passes (product_stays (imul_word insn.size (reg_of r 0 insn.size) x) (imul_status insn.size (reg_of r 0 insn.size) x))))
+      (λ x. follows (product_stays (imul_word insn.size (reg_of r 0 insn.size) x) (imul_status insn.size (reg_of r 0 insn.size) x))))
       (either_way (is_nothing insn.c)
       (reads r insn.b (λ y. updating r insn.a (λ x. flagged r free (signed_answer insn.size x y))) b (λ y.
       updates r insn.a (λ x. flagged r free (signed_answer insn.size x y)) a (λ x. flags_stay r (signed_answer insn.size x y).status free)))
@@ -79,7 +80,7 @@ module _ (insn : Insn) (r : Regs) (free : ℕ) where
       updates r insn.a (λ _. flagged r free (signed_answer insn.size y z)) a (λ _. flags_stay r (signed_answer insn.size y z).status free)))))
 
   quotient_way : (size : Size) (result : Result (ℕ × ℕ) DivideError) → Ways (Leaves r) (quotient_plan r size free result)
-  quotient_way size (Ok divided) = passes (then_stays (pair_stays size _ _) (flags_stay _ _ free))
+  quotient_way size (Ok divided) = follows (then_stays (pair_stays size _ _) (flags_stay _ _ free))
   quotient_way size (Err error) = fails (omega arith)
 
   divide_way : is_read insn.a ≡ true → Ways (Leaves r) (divide_plan insn r free)
@@ -94,7 +95,7 @@ module _ (insn : Insn) (r : Regs) (free : ℕ) where
 
   adjust_way : Ways (Leaves r) (adjust_plan insn r free)
   unfolding adjust_plan
-  adjust_way = passes (then_stays (reg_stays r 0 _ _) (flags_stay _ _ free))
+  adjust_way = follows (then_stays (reg_stays r 0 _ _) (flags_stay _ _ free))
 
   -- what AAM and AAD make
   abbrev digits : ℕ → Answer
@@ -106,11 +107,11 @@ module _ (insn : Insn) (r : Regs) (free : ℕ) where
   digits_way : is_read insn.a ≡ true → Ways (Leaves r) (digits_plan insn r free)
   unfolding digits_plan
   digits_way a = reads r insn.a (λ base. if base == 0 then Fail divide_error else adjusted r free (digits base)) a
-      (λ base. either_way (base == 0) (fails {fault = divide_error} (omega arith)) (passes (adjusted_stays (digits base))))
+      (λ base. either_way (base == 0) (fails {fault = divide_error} (omega arith)) (follows (adjusted_stays (digits base))))
 
   from_digits_way : is_read insn.a ≡ true → Ways (Leaves r) (from_digits_plan insn r free)
   unfolding from_digits_plan
-  from_digits_way a = reads r insn.a (λ base. adjusted r free (number base)) a (λ base. passes (adjusted_stays (number base)))
+  from_digits_way a = reads r insn.a (λ base. adjusted r free (number base)) a (λ base. follows (adjusted_stays (number base)))
 
   -- ---- shifts and bits
 
@@ -141,8 +142,8 @@ module _ (insn : Insn) (r : Regs) (free : ℕ) where
   unfolding bit_test_plan
   bit_test_way a b = reads r insn.b (λ index. if is_plain insn.a then bit_tested index (value_of r insn.a) else then_plan (bit_read r insn.a insn index) (bit_tested index)) b
       (λ index. bit_read_way insn.a index (bit_tested index (value_of r insn.a)) (bit_tested index) a
-      (passes (flags_stay r (bit_test_status (value_of r insn.a) (bit_place insn.size index)) free))
-      (λ x. passes (flags_stay r (bit_test_status x (bit_place insn.size index)) free)))
+      (follows (flags_stay r (bit_test_status (value_of r insn.a) (bit_place insn.size index)) free))
+      (λ x. follows (flags_stay r (bit_test_status x (bit_place insn.size index)) free)))
 
   bit_change_in : (a : Operand) (index : ℕ) (p : Plan After) (make : ℕ → Made) → is_place a ≡ true → Ways (Leaves r) p → ((value : ℕ) → Steady r (make value).regs)
       → Ways (Leaves r) (if is_plain a then p else bit_change r a insn index make)
@@ -164,6 +165,11 @@ module _ (insn : Insn) (r : Regs) (free : ℕ) where
 
 -- ---- moves
 
+-- neither follows the load of a segment register
+loaded : (seg : Seg) → IsOrdinary (after_load seg)
+loaded Ss = tt
+loaded _ = tt
+
 module _ (insn : Insn) (r : Regs) where
   set_way : (number : ℕ) → is_read insn.a ≡ true → Ways (Leaves r) (set_plan number insn r)
   unfolding set_plan
@@ -181,12 +187,12 @@ module _ (insn : Insn) (r : Regs) where
   load_segment_way : (seg : Seg) → is_read insn.b ≡ true → Ways (Leaves r) (load_segment_plan seg insn r)
   unfolding load_segment_plan
   load_segment_way seg b = reads r insn.b (λ sel. then_plan (load_plan r seg sel) (λ q. Done (record { regs = q; next = after_load seg; access = NoPort }))) b
-      (λ sel. segment_then r r seg sel _ (stays r) (λ _ h. passes h))
+      (λ sel. segment_then r r seg sel _ (stays r) (λ _ h. passes (h, loaded seg)))
 
   stored : (a : Operand) (value : ℕ) → is_place a ≡ true → Ways (Leaves r) (if is_plain a then follow (with_sized r a insn.size value) else then_plan (memory_write r a value) (λ _. follow r))
   unfolding memory_write
-  stored (Gpr n size) value e = passes (reg_stays r n insn.size value)
-  stored (At mem size) value e = store_then _ _ _ _ _ _ (λ _. passes (stays r))
+  stored (Gpr n size) value e = follows (reg_stays r n insn.size value)
+  stored (At mem size) value e = store_then _ _ _ _ _ _ (λ _. follows (stays r))
   stored _ value e = absurd cc
 
   store_segment_way : (seg : Seg) → is_place insn.a ≡ true → Ways (Leaves r) (store_segment_plan seg insn r)
@@ -222,22 +228,22 @@ module _ (insn : Insn) (r : Regs) where
 
   exchange_way : is_read insn.a ≡ true → is_read insn.b ≡ true → Ways (Leaves r) (exchange_plan insn r)
   unfolding exchange_plan
-  exchange_way a b = either_way (is_nothing insn.a) (passes (stays r))
+  exchange_way a b = either_way (is_nothing insn.a) (follows (stays r))
       (reads r insn.b (λ y. updating r insn.a (λ x. record { value = y; regs = with_value r insn.b x })) b (λ y.
       updates r insn.a (λ x. record { value = y; regs = with_value r insn.b x }) a (λ x. value_stays r insn.b x)))
 
   widen_way : Ways (Leaves r) (widen_plan insn r)
   unfolding widen_plan
-  widen_way = passes (reg_stays r 0 _ _)
+  widen_way = follows (reg_stays r 0 _ _)
 
   sign_way : Ways (Leaves r) (sign_plan insn r)
   unfolding sign_plan
-  sign_way = passes (reg_stays r 2 _ _)
+  sign_way = follows (reg_stays r 2 _ _)
 
   -- ---- addresses, pointers and bounds
 
   lea_of_way : (b : Operand) → is_memory b ≡ true → Ways (Leaves r) (lea_of b insn r)
-  lea_of_way (At mem size) e = passes (value_stays r insn.a _)
+  lea_of_way (At mem size) e = follows (value_stays r insn.a _)
   lea_of_way _ e = absurd cc
 
   lea_way : is_memory insn.b ≡ true → Ways (Leaves r) (lea_plan insn r)
@@ -246,11 +252,11 @@ module _ (insn : Insn) (r : Regs) where
 
   xlat_way : Ways (Leaves r) (xlat_plan insn r)
   unfolding xlat_plan
-  xlat_way = load_then _ _ _ _ _ (λ value. passes (reg_stays r 0 B1 value))
+  xlat_way = load_then _ _ _ _ _ (λ value. follows (reg_stays r 0 B1 value))
 
   pointer_of_way : (seg : Seg) (b : Operand) → is_memory b ≡ true → Ways (Leaves r) (pointer_of seg b insn r)
   pointer_of_way seg (At mem size) e = load_then _ _ _ _ _ (λ offset. load_then _ _ _ _ _ (λ sel.
-      segment_then r r _ _ _ (stays r) (λ q h. passes (then_stays h (value_stays q insn.a offset)))))
+      segment_then r r _ _ _ (stays r) (λ q h. follows (then_stays h (value_stays q insn.a offset)))))
   pointer_of_way seg _ e = absurd cc
 
   pointer_way : (seg : Seg) → is_memory insn.b ≡ true → Ways (Leaves r) (pointer_plan seg insn r)
@@ -259,7 +265,7 @@ module _ (insn : Insn) (r : Regs) where
 
   bound_of_way : (b : Operand) → is_memory b ≡ true → Ways (Leaves r) (bound_within b insn r)
   bound_of_way (At mem size) e = load_then _ _ _ _ _ (λ lower. load_then _ _ _ _ _ (λ upper.
-      either_way _ (passes (stays r)) (fails (omega arith))))
+      either_way _ (follows (stays r)) (fails (omega arith))))
   bound_of_way _ e = absurd cc
 
   bound_way : is_memory insn.b ≡ true → Ways (Leaves r) (bound_plan insn r)
@@ -267,7 +273,7 @@ module _ (insn : Insn) (r : Regs) where
   bound_way b = bound_of_way insn.b b
 
   pop_of_way : (a : Operand) → is_segment_pop ops.Pop a ≡ true → Ways (Leaves r) (pop_of a insn r)
-  pop_of_way (Sreg seg) e = pop_then r r _ _ (stays r) (λ popped h. segment_then r popped.1 _ _ _ h (λ _ k. passes k))
+  pop_of_way (Sreg seg) e = pop_then r r _ _ (stays r) (λ popped h. segment_then r popped.1 _ _ _ h (λ _ k. passes (k, loaded seg)))
   pop_of_way _ e = absurd cc
 
   pop_segment_way : is_segment_pop ops.Pop insn.a ≡ true → Ways (Leaves r) (pop_segment_plan insn r)

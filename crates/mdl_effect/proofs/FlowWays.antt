@@ -24,7 +24,7 @@ use Rattle.mdl_effect.specs.Kinds.{is_relative, is_target, is_pushed, is_popped}
 use Rattle.mdl_effect.specs.Forms.{IsFormedAs, IsFormed}
 use Rattle.mdl_effect.specs.Ways.{Leaves, IsComplete}
 use Rattle.mdl_effect.proofs.Registers.{stays, then_stays, reg_stays, carry_stays, direction_stays, ah_stays}
-use Rattle.mdl_effect.proofs.Operations.{Ways, passes, then_way, either_way, is_read, legal_way, load_then, push_way, push_then, pop_then, reads, writes, lands, targets}
+use Rattle.mdl_effect.proofs.Operations.{follows, Ways, passes, then_way, either_way, is_read, legal_way, load_then, push_way, push_then, pop_then, reads, writes, lands, targets}
 
 relative_target : (a : Operand) → is_relative a ≡ true → is_target a ≡ true
 relative_target (Rel displacement) e = refl
@@ -39,7 +39,7 @@ popped_read _ e s = absurd cc
 -- ---- the stack
 
 pushes : (r : Regs) (size : Size) (value : ℕ) → Ways (Leaves r) (pushing r size value)
-pushes r size value = push_then r r _ _ _ (stays r) (λ _ h. passes h)
+pushes r size value = push_then r r _ _ _ (stays r) (λ _ h. follows h)
 
 push_of_way : (a : Operand) (insn : Insn) (r : Regs) → is_pushed a ≡ true → Ways (Leaves r) (push_of a insn r)
 push_of_way (Sreg seg) insn r e = pushes r insn.size _
@@ -72,7 +72,7 @@ frames o old r size frame zero h = passes h
 frames o old r size frame (suc between) h = then_way (copies o old r size 1 between h) (λ q k. push_way o q size frame k)
 
 allows_top : (o r : Regs) → Steady o r → Ways (Leaves o) (allowing_top r)
-allows_top o r h = legal_way r Ss (stack_top r) B1 true _ (λ _. passes h)
+allows_top o r h = legal_way r Ss (stack_top r) B1 true _ (λ _. follows h)
 
 -- ---- the instructions
 
@@ -88,11 +88,11 @@ module _ (insn : Insn) (r : Regs) where
   pusha_way : Ways (Leaves r) (pusha_plan insn r)
   unfolding pusha_plan
   pusha_way = then_way (pushes_all r r insn.size (reg_of r 0 insn.size ∷ reg_of r 1 insn.size ∷ reg_of r 2 insn.size ∷ reg_of r 3 insn.size
-      ∷ reg_of r 4 insn.size ∷ reg_of r 5 insn.size ∷ reg_of r 6 insn.size ∷ reg_of r 7 insn.size ∷ []) (stays r)) (λ _ h. passes h)
+      ∷ reg_of r 4 insn.size ∷ reg_of r 5 insn.size ∷ reg_of r 6 insn.size ∷ reg_of r 7 insn.size ∷ []) (stays r)) (λ _ h. follows h)
 
   popa_way : Ways (Leaves r) (popa_plan insn r)
   unfolding popa_plan
-  popa_way = then_way (pops_all r r insn.size (7 ∷ 6 ∷ 5 ∷ 4 ∷ 3 ∷ 2 ∷ 1 ∷ 0 ∷ []) (stays r)) (λ _ h. passes h)
+  popa_way = then_way (pops_all r r insn.size (7 ∷ 6 ∷ 5 ∷ 4 ∷ 3 ∷ 2 ∷ 1 ∷ 0 ∷ []) (stays r)) (λ _ h. follows h)
 
   enter_way : Ways (Leaves r) (enter_plan insn r)
   unfolding enter_plan
@@ -102,14 +102,14 @@ module _ (insn : Insn) (r : Regs) where
 
   leave_way : Ways (Leaves r) (leave_plan insn r)
   unfolding leave_plan
-  leave_way = pop_then r _ _ _ (reg_stays r 4 _ _) (λ popped h. passes (then_stays h (reg_stays popped.1 5 insn.size popped.0)))
+  leave_way = pop_then r _ _ _ (reg_stays r 4 _ _) (λ popped h. follows (then_stays h (reg_stays popped.1 5 insn.size popped.0)))
 
   jump_way : (back : ℕ) → is_target insn.a ≡ true → Ways (Leaves r) (jump_plan insn r back)
   unfolding jump_plan
   jump_way back a = targets _ insn.a insn.size back _ a (λ eip. lands r r r eip (stays r))
 
   branches : (q : Regs) (taken : Bool) (back : ℕ) → is_target insn.a ≡ true → Steady r q → Ways (Leaves r) (branching taken insn q back)
-  branches q taken back a h = either_way _ (targets _ insn.a insn.size back _ a (λ eip. lands r q q eip h)) (passes h)
+  branches q taken back a h = either_way _ (targets _ insn.a insn.size back _ a (λ eip. lands r q q eip h)) (follows h)
 
   jump_if_way : (number back : ℕ) → is_relative insn.a ≡ true → Ways (Leaves r) (jump_if_plan number insn r back)
   unfolding jump_if_plan
@@ -133,19 +133,19 @@ module _ (insn : Insn) (r : Regs) where
 
 carry_way : (on : Bool) (r : Regs) → Ways (Leaves r) (flag_plan CF on r)
 unfolding flag_plan
-carry_way on r = passes (carry_stays r on)
+carry_way on r = follows (carry_stays r on)
 
 direction_way : (on : Bool) (r : Regs) → Ways (Leaves r) (flag_plan 10 on r)
 unfolding flag_plan
-direction_way on r = passes (direction_stays r on)
+direction_way on r = follows (direction_stays r on)
 
 to_ah_way : (r : Regs) → Ways (Leaves r) (flags_to_ah_plan r)
 unfolding flags_to_ah_plan
-to_ah_way r = passes (reg_stays r 4 B1 _)
+to_ah_way r = follows (reg_stays r 4 B1 _)
 
 from_ah_way : (r : Regs) → Ways (Leaves r) (ah_to_flags_plan r)
 unfolding ah_to_flags_plan
-from_ah_way r = passes (ah_stays r (reg_of r 4 B1))
+from_ah_way r = follows (ah_stays r (reg_of r 4 B1))
 
 -- ---- by mnemonic
 

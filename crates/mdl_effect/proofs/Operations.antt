@@ -17,7 +17,7 @@ use Rattle.mdl_cpu.specs.Access.{legal, segment_fault, load_from, store_to}
 use Rattle.mdl_cpu.specs.Loads.{load_plan, with_selector}
 use Rattle.mdl_cpu.specs.Stack.{push_plan, pop_plan}
 use Rattle.mdl_cpu.specs.Steady.{Steady}
-use Rattle.mdl_effect.specs.Operands.{After, Made, is_nothing, memory_read, memory_write, memory_change, change_in, reading, writing, updating}
+use Rattle.mdl_effect.specs.Operands.{After, Made, follow, is_nothing, memory_read, memory_write, memory_change, change_in, reading, writing, updating}
 use Rattle.mdl_effect.specs.Kinds.{is_gpr, is_number, is_place, is_direct, is_value, is_target}
 use Rattle.mdl_effect.specs.Jumps.{landing, target_by}
 use Rattle.mdl_effect.specs.Ways.{IsDefined, Leaves}
@@ -35,6 +35,10 @@ pub record Ways {A : Type 0} (P : A → Type 0) (plan : Plan A) : Type 0 where
 
 pub passes : {A : Type 0} {P : A → Type 0} {x : A} → P x → Ways P (Done x)
 passes h = record { ends = h }
+
+-- an instruction that goes on behind itself
+pub follows : {o r : Regs} → Steady o r → Ways (Leaves o) (follow r)
+follows h = record { ends = (h, tt) }
 
 pub fails : {A : Type 0} {P : A → Type 0} {fault : Fault} → IsDefined fault → Ways P (Fail fault)
 fails h = record { ends = h }
@@ -169,27 +173,27 @@ reads r _ k e h = absurd cc
 
 pub writes : {o : Regs} (r : Regs) (a : Operand) (value : ℕ) → is_read a ≡ true → Steady o r → Ways (Leaves o) (writing r a value)
 unfolding memory_write
-writes r Nothing value e h = passes h
-writes r (Gpr n size) value e h = passes (then_stays h (reg_stays r n size value))
-writes r (Imm number size) value e h = passes h
-writes r (At mem size) value e h = store_then r mem.seg (offset_of r mem) size value _ (λ _. passes h)
+writes r Nothing value e h = follows h
+writes r (Gpr n size) value e h = follows (then_stays h (reg_stays r n size value))
+writes r (Imm number size) value e h = follows h
+writes r (At mem size) value e h = store_then r mem.seg (offset_of r mem) size value _ (λ _. follows h)
 writes r _ value e h = absurd cc
 
 pub changes_in : {o : Regs} (r : Regs) (seg : Seg) (offset : ℕ) (size : Size) (make : ℕ → Made) → ((value : ℕ) → Steady o (make value).regs) → Ways (Leaves o) (change_in r seg offset size make)
-changes_in r seg offset size make h = legal_way r seg offset size true _ (λ at. record { ends = λ place value. h value })
+changes_in r seg offset size make h = legal_way r seg offset size true _ (λ at. record { ends = λ place value. (h value, tt) })
 
 pub updates : {o : Regs} (r : Regs) (a : Operand) (make : ℕ → Made) → is_read a ≡ true → ((value : ℕ) → Steady o (make value).regs) → Ways (Leaves o) (updating r a make)
 unfolding memory_change
-updates r Nothing make e h = passes (h _)
-updates r (Gpr n size) make e h = passes (then_stays (h _) (reg_stays _ n size _))
-updates r (Imm number size) make e h = passes (h _)
+updates r Nothing make e h = follows (h _)
+updates r (Gpr n size) make e h = follows (then_stays (h _) (reg_stays _ n size _))
+updates r (Imm number size) make e h = follows (h _)
 updates r (At mem size) make e h = changes_in r mem.seg (offset_of r mem) size make h
 updates r _ make e h = absurd cc
 
 -- ---- branches
 
 pub lands : (o r moved : Regs) (eip : ℕ) → Steady o moved → Ways (Leaves o) (landing r moved eip)
-lands o r moved eip h = either_way (nat_le eip (seg_of r Cs).limit) (passes (then_stays h (eip_stays moved eip))) (fails (omega arith))
+lands o r moved eip h = either_way (nat_le eip (seg_of r Cs).limit) (passes (then_stays h (eip_stays moved eip), tt)) (fails (omega arith))
 
 pub targets : {o : Regs} (r : Regs) (a : Operand) (size : Size) (back : ℕ) (k : ℕ → Plan After) → is_target a ≡ true → ((eip : ℕ) → Ways (Leaves o) (k eip)) → Ways (Leaves o) (target_by a size r back k)
 targets r (Rel displacement) size back k e h = h _

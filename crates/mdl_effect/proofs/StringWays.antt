@@ -1,5 +1,6 @@
 -- Each way through the plan of a string instruction.
-use Rattle.std.proofs.Common.{◌≡◌, ℕ, true}
+use Rattle.std.proofs.Common.{◌≡◌, ℕ, Bool, true, false}
+use Rattle.std.specs.Prelude.{if◌then◌else◌}
 use Rattle.mdl_state.specs.declared.Regs.{Regs}
 use Rattle.mdl_insn.specs.declared.instruction.Insn.{Insn}
 use Rattle.mdl_insn.specs.declared.instruction.Rep.{Rep}
@@ -7,10 +8,12 @@ use Rattle.mdl_insn.specs.declared.instruction.Rep.TheVariants as rep
 use Rattle.mdl_insn.specs.declared.mnemonics.Op.{Op}
 use Rattle.mdl_insn.specs.declared.mnemonics.Op.TheVariants as ops
 use Rattle.mdl_cpu.specs.Steady.{Steady}
-use Rattle.mdl_effect.specs.StringEffects.{runs_string, past_source, past_destination, past_both, compared, move_string_plan, compare_strings_plan, store_string_plan, load_string_plan, scan_string_plan, iterate_by, iterate_plan, repeating, string_plan}
+use Rattle.mdl_state.specs.declared.Next.TheVariants.{Follow, Again}
+use Rattle.mdl_effect.specs.Operands.{IsOrdinary, counted_down}
+use Rattle.mdl_effect.specs.StringEffects.{runs_string, goes_on, past_source, past_destination, past_both, compared, move_string_plan, compare_strings_plan, store_string_plan, load_string_plan, scan_string_plan, iterate_by, iterate_plan, repeating, string_plan}
 use Rattle.mdl_effect.specs.Ways.{Leaves, IsComplete}
 use Rattle.mdl_effect.proofs.Registers.{stays, then_stays, reg_stays, flags_stay}
-use Rattle.mdl_effect.proofs.Operations.{Ways, passes, then_way, either_way, load_then, store_then}
+use Rattle.mdl_effect.proofs.Operations.{follows, Ways, passes, then_way, either_way, load_then, store_then}
 
 past_source_stays : (r : Regs) (insn : Insn) → Steady r (past_source r insn)
 past_source_stays r insn = reg_stays r 6 _ _
@@ -20,6 +23,11 @@ past_destination_stays r insn = reg_stays r 7 _ _
 
 past_both_stays : (r : Regs) (insn : Insn) → Steady r (past_both r insn)
 past_both_stays r insn = then_stays (past_source_stays r insn) (past_destination_stays (past_source r insn) insn)
+
+-- a repeat goes on or ends
+repeated : (more : Bool) → IsOrdinary (if more then Again else Follow)
+repeated true = tt
+repeated false = tt
 
 module _ (insn : Insn) (r : Regs) where
   move_way : Ways (Steady r) (move_string_plan insn r)
@@ -56,11 +64,11 @@ module _ (insn : Insn) (r : Regs) where
   iterates free e = by_way insn.op free e
 
   counted : (free : ℕ) → runs_string insn.op ≡ true → (rep : Rep) → Ways (Leaves r) (repeating rep insn r free)
-  counted free e rep.Plain = then_way (iterates free e) (λ _ h. passes h)
-  counted free e rep.Equal = either_way _ (passes (stays r))
-      (then_way (iterates free e) (λ q h. passes (then_stays h (reg_stays q 1 _ _))))
-  counted free e rep.NotEqual = either_way _ (passes (stays r))
-      (then_way (iterates free e) (λ q h. passes (then_stays h (reg_stays q 1 _ _))))
+  counted free e rep.Plain = then_way (iterates free e) (λ _ h. follows h)
+  counted free e rep.Equal = either_way _ (follows (stays r))
+      (then_way (iterates free e) (λ q h. passes (then_stays h (reg_stays q 1 _ _), repeated (goes_on insn (counted_down q insn.wide)))))
+  counted free e rep.NotEqual = either_way _ (follows (stays r))
+      (then_way (iterates free e) (λ q h. passes (then_stays h (reg_stays q 1 _ _), repeated (goes_on insn (counted_down q insn.wide)))))
 
 pub string_complete : (insn : Insn) (r : Regs) (free : ℕ) → runs_string insn.op ≡ true → IsComplete r (string_plan insn r free)
 unfolding string_plan

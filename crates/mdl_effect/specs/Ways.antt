@@ -5,17 +5,17 @@ use Rattle.mdl_state.specs.declared.Fault.{Fault}
 use Rattle.mdl_state.specs.Attempt.{Plan}
 use Rattle.mdl_state.specs.Ends.{Ends}
 use Rattle.mdl_cpu.specs.Steady.{Steady}
-use Rattle.mdl_effect.specs.Operands.{After}
+use Rattle.mdl_effect.specs.Operands.{After, IsOrdinary}
 
 -- the fault is not that of an instruction that is not defined
 abbrev pub IsDefined : Fault → Type 0
 IsDefined fault = fault.vector ≢ 6
 
--- the instruction leaves the mode
+-- the instruction leaves the mode, and neither a software interrupt nor a task switch follows
 abbrev pub Leaves : Regs → After → Type 0
-Leaves r after = Steady r after.regs
+Leaves r after = Steady r after.regs × IsOrdinary after.next
 
--- Each way that passes leaves the mode, and no check fails as if the instruction were not defined. So no
+-- Each way that passes leaves the mode and goes on in order, and no check fails as if the instruction were not defined. So no
 -- way comes to the row that stands where no instruction has such an operand.
 abbrev pub IsComplete : Regs → Plan After → Type 0
 IsComplete r plan = Ends (Leaves r) IsDefined plan

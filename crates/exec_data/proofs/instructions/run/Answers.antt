@@ -33,7 +33,7 @@ returns-clause-steady g c =
     let old = whole c.args.regs.now c.args.flags.now in
     let now = c.run_memory in
     let new = whole now.new.regs now.new.flags in
-    ran_steady (Leaves old) now.result c.args.regs.now now.new.regs c.args.flags.now now.new.flags (λ after leaves. leaves)
+    ran_steady (Leaves old) now.result c.args.regs.now now.new.regs c.args.flags.now now.new.flags (λ after leaves. leaves.0)
     (data_leaves spelt.0 spelt.1 c.args.insn.now old new.eflags (by_pick g.L.Linear.pick) 0 (g.L.Linear.seen c.args.lin.now) (g.L.Linear.seen now.new.lin)
     (ran now.result new) spelt.2 c.requires.runs now.ensures.run)
     now.ensures.unchanged

@@ -22,7 +22,7 @@ returns-clause-steady g c =
     let spelt = c.requires.spelt in
     let old = whole c.args.regs.now c.args.flags.now in
     let now = c.run_formed in
-    ran_steady (Leaves old) now.result c.args.regs.now now.new.regs c.args.flags.now now.new.flags (λ after leaves. leaves)
+    ran_steady (Leaves old) now.result c.args.regs.now now.new.regs c.args.flags.now now.new.flags (λ after leaves. leaves.0)
     (flow_leaves spelt.0 spelt.1 c.args.insn.now old c.args.back (by_pick g.L.Linear.pick) 0 (g.L.Linear.seen c.args.lin.now) (g.L.Linear.seen now.new.lin)
     (ran now.result (whole now.new.regs now.new.flags)) spelt.2 c.requires.runs now.ensures.run)
     now.ensures.unchanged
