@@ -17,9 +17,9 @@ general_protection code = coded_fault 13 code
 abbrev pub fault_at : ℕ → ℕ → Fault
 fault_at vector selector = coded_fault vector (selector - selector % 4)
 
--- the bit EXT, which every code has but that of a page fault
+-- the bit EXT, which every code has but those of a page fault and of a double fault
 abbrev pub extended : Bool → Fault → Fault
-extended external fault = if external && not (fault.vector == 14) then record fault { code = fault.code - fault.code % 2 + 1 } else fault
+extended external fault = if external && not (fault.vector == 14) && not (fault.vector == 8) then record fault { code = fault.code - fault.code % 2 + 1 } else fault
 
 -- a check: where it holds, it is the fault
 pub record Row : Type 0 where
