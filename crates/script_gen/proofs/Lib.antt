@@ -1,0 +1,4 @@
+pub mod Lines
+pub mod NotStated
+pub mod Reading
+pub mod Making
