@@ -14,7 +14,9 @@ use std::str;
 /// The most steps that a run makes.
 const MOST_STEPS: u64 = 1_000_000_000_000_000;
 
-/// The most pulses of one event.
+/// The least and the most pulses of one event.
+const LEAST_PULSES: u64 = 1;
+
 const MOST_PULSES: u64 = 0xFFFF_FFFF;
 
 const HEX: u32 = 16;
@@ -91,7 +93,7 @@ fn kind_of(text: &[u8]) -> Option<EventKind>
         return Some(EventKind::Key(byte));
     }
     let count = number_of(behind(text, b"pulse ")?, MOST_PULSES)?;
-    if count == 0 {
+    if count < LEAST_PULSES {
         return None;
     }
     Some(EventKind::Pulse(count as u32))

@@ -38,7 +38,9 @@ fn register(number: u16) -> u8
     if register == 4 { 0 } else { register }
 }
 
-/// Adds an item.
+/// Adds an item: arithmetic with an immediate, or with two registers; a store or a load of AX; a push
+/// and a pop; a rotation; a copy of bytes; a byte for the screen memory.
+#[rattlefmt::skip]
 fn push_item(rom: &mut Vec<u8>, kind: u16, second: u16, third: u16) -> Result<(), AllocError>
     ensures { OnOk result (rom.new.items ≡ rom.old.items ++ item_of_kind kind second third) }
 {
@@ -54,14 +56,7 @@ fn push_item(rom: &mut Vec<u8>, kind: u16, second: u16, third: u16) -> Result<()
         4 => rom.extend_from_slice(&[0x50 + low, 0x58 + high]),
         5 => rom.extend_from_slice(&[0xD1, 0xC0 + 8 * (operation % 4) + low]),
         6 => rom.extend_from_slice(&[0xB9, (third % 64) as u8, 0x00, 0xF3, 0xA4]),
-        _ => rom.extend_from_slice(&[
-            0x26,
-            0xC6,
-            0x06,
-            byte,
-            page % 16,
-            0x20 + (second % 95) as u8,
-        ]),
+        _ => rom.extend_from_slice(&[0x26, 0xC6, 0x06, byte, page % 16, 0x20 + (second % 95) as u8]),
     }
 }
 
