@@ -1,0 +1,5 @@
+pub mod Filled
+pub mod Given
+pub mod Kept
+pub mod Numbers
+pub mod Rules
