@@ -1,7 +1,8 @@
 -- Sectors of a list of bytes: how many there are, which one stands where, and one put in place.
-use Rattle.std.specs.Prelude.{ℕ, zero, suc, ◌≡◌, ◌≤◌, ◌<◌, ◌+◌, ◌*◌, ◌/◌, ◌%◌, refl, List, [], ◌++◌, length, take, drop, slice_index, slice_index_or, slice_set}
+use Rattle.std.specs.Prelude.{ℕ, zero, suc, ◌≡◌, ◌≤◌, ◌<◌, ◌+◌, ◌*◌, ◌/◌, ◌%◌, refl, List, [], ◌∷◌, ◌++◌, length, take, drop, slice_index, slice_index_or, slice_set}
+use Rattle.std.specs.List.{flat_map}
 use Rattle.std.proofs.Common.{arith, ap, sym, ◌∙◌, append_assoc}
-use Rattle.std.proofs.lemmas.List.{get_or-take, get_or-drop, take-append-le, drop-append-le, take_at, drop_at, take-take, length-take, length-drop, length-append, drop-take, drop-drop}
+use Rattle.std.proofs.lemmas.List.{take-append-drop, get_or-take, get_or-drop, take-append-le, drop-append-le, take_at, drop_at, take-take, length-take, length-drop, length-append, drop-take, drop-drop}
 use Rattle.mdl_dev.specs.DiskImage.{sectors_from, sectors_of}
 
 pub length-sectors_from : (count : ℕ) (bytes : List ℕ) → length (sectors_from count bytes) ≡ count
@@ -74,5 +75,16 @@ pub sector_stored : (bytes block : List ℕ) (lba : ℕ) → lba < length bytes 
 unfolding sectors_of
 sector_stored bytes block lba h full =
     rw (length-put_at bytes block (512 * lba) (omega arith) full) (stored_from (length bytes / 512) lba bytes block h (omega arith) full)
+
+joined_from : (count : ℕ) (bytes : List ℕ) → length bytes ≡ 512 * count → flat_map (λ sector. sector) (sectors_from count bytes) ≡ bytes
+joined_from zero [] e = refl
+joined_from zero (byte ∷ bytes) e = absurd (omega (arith, e))
+joined_from (suc count) bytes e =
+    rw (joined_from count (drop 512 bytes) (omega (arith, e, length-drop 512 bytes))) (take-append-drop 512 bytes)
+
+-- the sectors of a whole number of them are its bytes again
+pub sectors_joined : (bytes : List ℕ) → length bytes % 512 ≡ 0 → flat_map (λ sector. sector) (sectors_of bytes) ≡ bytes
+unfolding sectors_of
+sectors_joined bytes whole = joined_from (length bytes / 512) bytes (omega (arith, whole))
 
 pub ruleset sector_laws = (length-sectors_of, byte_in_sector, sector_read, sector_stored)

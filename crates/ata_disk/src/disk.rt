@@ -1,9 +1,9 @@
 //! The disk, what always holds of it, and its bytes.
 
-ghost use Rattle.std.specs.Prelude.{◌≡◌, ◌<◌, ◌*◌, ◌/◌, ◌%◌, not, length, slice_index};
+ghost use Rattle.std.specs.Prelude.{◌≡◌, ◌<◌, not, length, slice_index};
 ghost use Rattle.mdl_state.specs.Bytes.{bit};
 ghost use Rattle.mdl_dev.specs.Disk.{DiskState, IsDiskLength, disk_at_boot, answers};
-ghost use Rattle.mdl_dev.specs.DiskImage.{sectors_of};
+ghost use Rattle.mdl_dev.specs.DiskImage.{sectors_of, disk_bytes};
 ghost use Rattle.mdl_dev.specs.DiskTransfer.{disk_byte};
 ghost use Rattle.ata_disk.specs.Sound.{IsSound};
 
@@ -44,6 +44,12 @@ pub(crate) const IDLE: Transfer = Transfer {
     lba: 0,
 };
 
+/// The geometry that no command has set.
+const GEOMETRY: Geometry = Geometry {
+    heads: 16,
+    sectors: 63,
+};
+
 impl Disk {
     /// A disk of these bytes, as it is when the machine is switched on. No bytes are no drive.
     pub fn new(bytes: Vec<u8>) -> Disk
@@ -52,14 +58,21 @@ impl Disk {
     {
         Disk {
             registers: signature(READY, 0),
-            geometry: Geometry {
-                heads: 16,
-                sectors: 63,
-            },
+            geometry: GEOMETRY,
             transfer: IDLE,
             block: [0; SECTOR_BYTES],
             bytes,
         }
+    }
+
+    /// The disk is switched on again: it is as at first, with the sectors that it has now.
+    pub fn reset(&mut self)
+        ensures { self.new ≡ disk_at_boot self.old.sectors }
+    {
+        self.registers = signature(READY, 0);
+        self.geometry = GEOMETRY;
+        self.transfer = IDLE;
+        self.block = [0; SECTOR_BYTES];
     }
 
     /// How many sectors it has.
@@ -70,11 +83,20 @@ impl Disk {
         (self.bytes.len() / SECTOR_BYTES) as u32
     }
 
+    /// How many bytes it has.
+    #[tactic(auto, using(crate::proofs::Sectors::sectors_joined))]
+    pub fn len(&self) -> u32
+        ensures { result ≡ length (disk_bytes self.now) }
+    {
+        self.bytes.len() as u32
+    }
+
     /// The byte at a place of the disk, counted from its first sector's first byte.
-    #[tactic(auto, using(crate::proofs::Sectors::sector_laws))]
+    #[tactic(auto, using(crate::proofs::Sectors::sector_laws, crate::proofs::Sectors::sectors_joined))]
     pub fn byte(&self, at: u32) -> u8
-        requires { at < SECTOR_BYTES * length self.now.sectors }
-        ensures { result ≡ disk_byte self.now at }
+        requires { at < length (disk_bytes self.now) }
+        ensures value { result ≡ disk_byte self.now at }
+        ensures joined { result ≡ slice_index (disk_bytes self.now) at }
     {
         self.bytes[at as usize]
     }

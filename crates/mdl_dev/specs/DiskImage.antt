@@ -1,6 +1,7 @@
 -- The whole state of the disk as 531 bytes, little endian; the sectors stand apart.
 -- Own: The image of the disk.
 use Rattle.std.specs.Prelude.{ℕ, ◌/◌, ◌==◌, ◌&&◌, nat_lt, nat_le, Bool, if◌then◌else◌, Option, Some, None, List, [], ◌∷◌, ◌++◌, length, take, drop, slice_index, zero, suc}
+use Rattle.std.specs.List.{flat_map}
 use Rattle.mdl_state.specs.Bytes.{little, little_bytes, bytes_at}
 use Rattle.mdl_dev.specs.declared.disk.Registers.{Registers}
 use Rattle.mdl_dev.specs.declared.disk.Geometry.{Geometry}
@@ -118,3 +119,7 @@ sectors_from (suc count) bytes =
 -- the sectors of a list of bytes
 unfoldable pub sectors_of : List ℕ → List (List ℕ)
 sectors_of bytes = sectors_from (length bytes / SECTOR_BYTES) bytes
+
+-- the bytes of a disk, sector after sector
+abbrev pub disk_bytes : DiskState → List ℕ
+disk_bytes d = flat_map (λ sector. sector) d.sectors

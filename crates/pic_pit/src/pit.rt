@@ -169,6 +169,13 @@ impl Pit {
         self.timer.gate2 = high;
     }
 
+    /// Whether the gate of counter 2 is high.
+    pub fn is_gate2_high(&self) -> bool
+        ensures { result ≡ self.now.gate2 }
+    {
+        self.timer.gate2
+    }
+
     /// Whether OUT of a counter, 0 to 2, is high.
     pub fn out(&self, counter: u8) -> bool
         requires { counter < 3 }

@@ -1,0 +1,4 @@
+pub mod Board
+pub mod BytePorts
+pub mod WideAccesses
+pub mod Wiring
