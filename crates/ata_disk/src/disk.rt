@@ -77,7 +77,7 @@ impl Disk {
 
     /// How many sectors it has.
     #[tactic(auto, using(crate::proofs::Sectors::sector_laws))]
-    pub(crate) fn total(&self) -> u32
+    pub fn total(&self) -> u32
         ensures { result ≡ length self.now.sectors }
     {
         (self.bytes.len() / SECTOR_BYTES) as u32

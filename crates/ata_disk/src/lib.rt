@@ -13,8 +13,6 @@ mod identify;
 mod image;
 mod ports;
 mod registers;
-#[cfg(test)]
-mod tests;
 mod transfer;
 mod verify;
 

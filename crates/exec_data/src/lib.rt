@@ -29,6 +29,3 @@ mod shifts;
 pub use instructions::run;
 pub use plain::{is_plain_data, runs_data};
 pub use plain_run::run_plain;
-
-#[cfg(test)]
-mod examples;

@@ -15,6 +15,3 @@ mod pops;
 mod pushes;
 
 pub use instructions::{run, runs_flow};
-
-#[cfg(test)]
-mod examples;

@@ -18,8 +18,3 @@ pub mod slice;
 pub use decoding::{blank, decode, decode_into};
 pub use refusals::{SliceError, Undecoded};
 pub use slice::decode_slice;
-
-#[cfg(test)]
-mod faults;
-#[cfg(test)]
-mod vectors;

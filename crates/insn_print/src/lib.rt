@@ -13,6 +13,3 @@ mod printing;
 mod registers;
 
 pub use printing::print;
-
-#[cfg(test)]
-mod printed;

@@ -9,8 +9,6 @@ mod commands;
 mod keyboard;
 mod keyboard_image;
 mod screen;
-#[cfg(test)]
-mod tests;
 
 pub use keyboard::Kbd;
 pub use mdl_dev::keyboard::Told;

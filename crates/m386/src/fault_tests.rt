@@ -1,11 +1,37 @@
-//! What the clauses do not say of faults: which slot is told, and that the line is tried behind a
-//! failure of the report itself.
+//! What the clauses do not say of failing hosts: which slot is told, that the line is tried behind a
+//! failure of the report itself, and that a report does not depend on how a host cuts its pieces.
 
 use crate::status::Status;
-use crate::tests::{host, run};
 use crate::top::m386;
-use host_io::{MemHost, OutSlot};
+use host_io::{InSlot, MemHost, OutSlot};
+use std::alloc::{AllocError, Global};
 use std::test::Fail;
+
+/// More than the bytes of a report.
+const ROOM: u32 = 4096;
+
+/// A host with a ROM of 4,096 of these bytes.
+fn host_with(alloc: Global, byte: u8) -> Result<MemHost, AllocError> {
+    let mut host = MemHost::new(alloc);
+    host.put(InSlot::Rom, vec![in alloc; byte; 4096]?);
+    host.make_room(OutSlot::Report, ROOM)?;
+    Ok(host)
+}
+
+/// A host with a ROM of F4h, which is HLT.
+fn host(alloc: Global) -> Result<MemHost, AllocError> {
+    host_with(alloc, 0xF4)
+}
+
+/// Runs the ROM of a host for so many steps.
+fn run(alloc: Global, host: &mut MemHost, steps: &str) -> Status {
+    m386(alloc, &["run", "--rom", "rom.bin", "--steps", steps], host)
+}
+
+/// Lists the ROM of a host.
+fn list(alloc: Global, host: &mut MemHost) -> Status {
+    m386(alloc, &["dis", "--rom", "rom.bin"], host)
+}
 
 const ROM_LINE: &str = "m386: host fault at rom\n";
 
@@ -24,7 +50,7 @@ fn is_cut(text: &[u8], whole: &[u8], lines: usize, line: &str) -> bool {
 // The opening, two reads, the opening of the report, and its two pieces: 17 lines and 25.
 #[test]
 fn a_failing_call_is_told_behind_what_the_report_has(rt: HostRuntime) -> Result<(), Fail> {
-    let mut whole = host(rt.alloc(), 4096, &[])?;
+    let mut whole = host(rt.alloc())?;
     whole.fail_at(7)?;
     assert_eq!(rt; run(rt.alloc(), &mut whole, "1"), Status::Done);
     for (call, lines, line) in [
@@ -35,7 +61,7 @@ fn a_failing_call_is_told_behind_what_the_report_has(rt: HostRuntime) -> Result<
         (5, 0, REPORT_LINE),
         (6, 17, REPORT_LINE),
     ] {
-        let mut host = host(rt.alloc(), 4096, &[])?;
+        let mut host = host(rt.alloc())?;
         host.fail_at(call)?;
         assert_eq!(rt;
             run(rt.alloc(), &mut host, "1"),
@@ -59,7 +85,7 @@ fn a_failing_call_is_told_behind_what_the_report_has(rt: HostRuntime) -> Result<
 #[test]
 fn a_line_that_fails_is_tried_once_and_leaves_the_status(rt: HostRuntime) -> Result<(), Fail> {
     for call in [2, 3] {
-        let mut rom = host(rt.alloc(), 4096, &[])?;
+        let mut rom = host(rt.alloc())?;
         rom.fail_at(1)?;
         rom.fail_at(call)?;
         assert_eq!(rt;
@@ -68,7 +94,7 @@ fn a_line_that_fails_is_tried_once_and_leaves_the_status(rt: HostRuntime) -> Res
             "call {call}"
         );
         assert!(rt; rom.taken(OutSlot::Report).is_empty(), "call {call}");
-        let mut words = host(rt.alloc(), 4096, &[])?;
+        let mut words = host(rt.alloc())?;
         words.fail_at(call - 1)?;
         assert_eq!(rt; m386(rt.alloc(), &[], &mut words), Status::Usage);
         assert!(rt; words.taken(OutSlot::Report).is_empty(), "call {call}");
@@ -82,5 +108,44 @@ fn a_full_output_takes_the_first_bytes_of_a_line(rt: HostRuntime) -> Result<(), 
     host.make_room(OutSlot::Report, 6)?;
     assert_eq!(rt; m386(rt.alloc(), &["halt"], &mut host), Status::Usage);
     assert_eq!(rt; host.taken(OutSlot::Report), "m386: ".as_bytes());
+    Ok(())
+}
+
+#[test]
+fn a_host_that_hands_over_single_bytes_takes_the_same_report(rt: HostRuntime) -> Result<(), Fail> {
+    let mut whole = host(rt.alloc())?;
+    assert_eq!(rt; run(rt.alloc(), &mut whole, "1"), Status::Done);
+    let mut single = host(rt.alloc())?;
+    single.set_piece(1);
+    assert_eq!(rt; run(rt.alloc(), &mut single, "1"), Status::Done);
+    assert_eq!(rt; single.taken(OutSlot::Report), whole.taken(OutSlot::Report));
+    Ok(())
+}
+
+// Two lines fit into the output, and the third only in part.
+#[test]
+fn a_full_output_takes_the_first_bytes_of_a_listing(rt: HostRuntime) -> Result<(), Fail> {
+    let alloc = rt.alloc();
+    let mut host = MemHost::new(alloc);
+    host.put(InSlot::Rom, vec![in alloc; 0x90; 4096]?);
+    host.make_room(OutSlot::Report, 40)?;
+    assert_eq!(rt; list(alloc, &mut host), Status::HostFault);
+    assert_eq!(rt;
+        host.taken(OutSlot::Report),
+        "00000000 90 nop\n00000001 90 nop\n00000002".as_bytes()
+    );
+    Ok(())
+}
+
+// The opening, two reads, the opening of the report, and a line.
+#[test]
+fn a_line_that_fails_is_told_behind_those_before(rt: HostRuntime) -> Result<(), Fail> {
+    let mut host = host_with(rt.alloc(), 0x90)?;
+    host.fail_at(6)?;
+    assert_eq!(rt; list(rt.alloc(), &mut host), Status::HostFault);
+    assert_eq!(rt;
+        host.taken(OutSlot::Report),
+        "00000000 90 nop\nm386: host fault at report\n".as_bytes()
+    );
     Ok(())
 }

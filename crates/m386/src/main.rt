@@ -7,21 +7,15 @@
 
 mod dis_command;
 #[cfg(test)]
-mod dis_tests;
-#[cfg(test)]
 mod fault_tests;
 mod file_host;
 mod listing;
 mod machine;
-#[cfg(test)]
-mod machine_tests;
 mod refusals;
 mod report;
 mod rom;
 mod run_command;
 mod status;
-#[cfg(test)]
-mod tests;
 mod texts;
 mod top;
 mod words;

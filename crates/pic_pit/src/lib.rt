@@ -11,12 +11,8 @@ mod counts;
 mod modes;
 mod pic;
 mod pic_image;
-#[cfg(test)]
-mod pic_tests;
 mod pit;
 mod pit_image;
-#[cfg(test)]
-mod pit_tests;
 mod priority;
 
 pub use pic::Pic;

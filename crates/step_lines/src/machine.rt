@@ -7,47 +7,6 @@ use mem_iface::Linear;
 use std::alloc::{AllocError, Global};
 use tlb::Tlb;
 
-/// Words by linear address.
-pub type Words = [(u32, u32); 3];
-
-/// No word: that at 0 is 0.
-pub const NONE: Words = [(0, 0); 3];
-
-/// The byte behind a row's instruction.
-pub const N: u8 = 0x90;
-
-/// A step from EIP 100h: its code, EFLAGS, registers and words of memory before it; what follows or
-/// its fault, EIP, EFLAGS, registers and words behind it.
-pub type Row = (
-    [u8; 6],
-    u32,
-    [u32; 8],
-    Words,
-    Result<Next, Fault>,
-    u32,
-    u32,
-    [u32; 8],
-    Words,
-);
-
-pub const FOLLOW: Result<Next, Fault> = Ok(Next::Follow);
-
-pub const LANDED: Result<Next, Fault> = Ok(Next::Landed);
-
-pub const AGAIN: Result<Next, Fault> = Ok(Next::Again);
-
-pub const STACK: Result<Next, Fault> = Err(Fault {
-    vector: 12,
-    code: 0,
-    addr: 0,
-});
-
-pub const GENERAL: Result<Next, Fault> = Err(Fault {
-    vector: 13,
-    code: 0,
-    addr: 0,
-});
-
 /// A segment that real mode loads, with B of its rights.
 fn segment(sel: u16, big: bool) -> Hidden {
     Hidden {
@@ -58,7 +17,7 @@ fn segment(sel: u16, big: bool) -> Hidden {
     }
 }
 
-/// The registers before a step.
+/// The registers before a step from EIP 100h.
 fn regs_of(gpr: [u32; 8], eflags: u32, big: bool) -> Regs {
     let other = segment(0, big);
     Regs {
@@ -92,7 +51,7 @@ fn regs_of(gpr: [u32; 8], eflags: u32, big: bool) -> Regs {
 /// Memory and registers.
 #[derive(Drop)]
 pub struct Machine {
-    pub memory: Tlb,
+    memory: Tlb,
     pub regs: Regs,
     big: bool,
 }
@@ -111,55 +70,34 @@ impl Machine {
         })
     }
 
-    /// Puts words.
-    pub fn put(&mut self, words: &Words) {
-        for &(at, word) in words {
-            if self.memory.room() < 4 {
-                return;
-            }
-            let _ = self
-                .memory
-                .write(at, Size::B2, word % 0x1_0000, Who::Supervisor);
-            self.memory.commit();
+    /// Puts a word at a linear address.
+    pub fn put(&mut self, at: u32, word: u16) {
+        if self.memory.room() < 4 {
+            return;
         }
+        let _ = self
+            .memory
+            .write(at, Size::B2, u32::from(word), Who::Supervisor);
+        self.memory.commit();
     }
 
-    /// Whether these words stand there.
-    pub fn has(&mut self, words: &Words) -> bool {
-        for &(at, word) in words {
-            if self.memory.read(at, Size::B2, Who::Supervisor) != Ok(word) {
-                return false;
-            }
-        }
-        true
+    /// The word at a linear address.
+    pub fn word(&mut self, at: u32) -> Option<u32> {
+        self.memory.read(at, Size::B2, Who::Supervisor).ok()
     }
 
-    /// A step of the instruction at the front of these bytes.
-    pub fn step(&mut self, code: &[u8]) -> Option<Result<Next, Fault>> {
-        step(&mut self.regs, &mut self.memory, code, self.big)
+    /// A step of the instruction at the front of these bytes, and whether a register is another one
+    /// then that is no general one, nor EIP, EFLAGS or CR0.
+    pub fn step(&mut self, code: &[u8]) -> (Option<Result<Next, Fault>>, bool) {
+        let before = self.regs;
+        let ran = step(&mut self.regs, &mut self.memory, code, self.big);
+        let others = Regs {
+            gpr: before.gpr,
+            eip: before.eip,
+            eflags: before.eflags,
+            cr0: before.cr0,
+            ..self.regs
+        };
+        (ran, others != before)
     }
-}
-
-/// Whether a step is as its row says.
-fn is_so(alloc: Global, row: &Row, big: bool) -> Result<bool, AllocError> {
-    let (code, eflags, gpr, put, ran, eip, left, after, found) = row;
-    let mut machine = Machine::new(alloc, *gpr, *eflags, big)?;
-    machine.put(put);
-    Ok(
-        machine.step(code) == Some(*ran)
-            && machine.regs.eip == *eip
-            && machine.regs.eflags == *left
-            && machine.regs.gpr == *after
-            && machine.has(found),
-    )
-}
-
-/// The first of these rows whose step is another one.
-pub fn first_wrong(alloc: Global, rows: &[Row], big: bool) -> Result<Option<usize>, AllocError> {
-    for at in 0..rows.len() {
-        if !is_so(alloc, &rows[at], big)? {
-            return Ok(Some(at));
-        }
-    }
-    Ok(None)
 }

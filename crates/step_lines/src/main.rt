@@ -8,13 +8,23 @@
 //! EFLAGS, EIP and the registers, and then a line with each offset whose byte is another, and that
 //! byte. Every byte is then put back. `tools/check-vectors` compares such answers with steps of a real
 //! processor.
+//!
+//! A line that begins with no digit is one of a worked example, by hand from the manual, chapter 17: it
+//! is printed again, and behind it what comes of it. Such a line has an act and numbers in hexadecimal.
+//! `small` and `big` make a machine of 16 or of 32 bits by EFLAGS and the eight registers, at EIP 100h,
+//! `at` sets EIP, `put` puts a word at a linear address, `step` runs the instruction of these bytes, and
+//! says what follows or its fault, EIP and the registers, `flags` gives EFLAGS under a mask, `word` a
+//! word, and `segment` the selector and the base of a segment register. All else says what is shown.
 #![tactic(auto)]
 
+mod examples;
 mod lines;
+mod machine;
 mod steps;
 mod window;
 
 use lines::{Answer, answer_of};
+use machine::Machine;
 use std::io;
 use window::{SIZE, changed, new_memory, restore};
 
@@ -23,8 +33,14 @@ fn main(rt: HostRuntime) -> io::Result<()> {
         println!(rt; "memory")?;
         return Ok(());
     };
+    let mut machine = Machine::new(rt.alloc(), [0; 8], 0, false)?;
     for line in rt.lines(rt.alloc()) {
-        let answer = answer_of(&mut memory, line?.as_str());
+        let line = line?;
+        if examples::is_example(line.as_str()) {
+            examples::answer(&rt, rt.alloc(), &mut machine, line.as_str())?;
+            continue;
+        }
+        let answer = answer_of(&mut memory, line.as_str());
         match &answer {
             Some(Answer { fault, regs }) => {
                 let [a, c, d, b, sp, bp, si, di] = regs.gpr;
@@ -50,12 +66,3 @@ fn main(rt: HostRuntime) -> io::Result<()> {
     }
     Ok(())
 }
-
-#[cfg(test)]
-mod data_examples;
-#[cfg(test)]
-mod machine;
-#[cfg(test)]
-mod stack_examples;
-#[cfg(test)]
-mod string_examples;
