@@ -270,9 +270,14 @@ module _ {B : Type 0} (rules : Rules B) (pick : Pick) (policy : Policy) (meets :
         code = Instruction insn count;
         mid = with_items mid second.items;
         fetched = first.fetched second.items;
-        fault = (0, p.free, p.fault, with_items p.left [],
-            ap (λ (is : List Item). attempted (by_list policy) s.core insn (behind s.core.regs count) 0 p.free (with_items mid is)) (sym (append-nil second.items))
-            ∙ second.same [] ∙ ap (λ (w : Outcome After × Mem). (w.0, with_items w.1 [])) (same_attempt pick s.core insn (behind s.core.regs count) 0 p.free mid cover plain ∙ p.failed));
+        fault = (
+          0,
+          p.free,
+          p.fault,
+          with_items p.left [],
+          ap (λ (is : List Item). attempted (by_list policy) s.core insn (behind s.core.regs count) 0 p.free (with_items mid is)) (sym (append-nil second.items))
+              ∙ second.same [] ∙ ap (λ (w : Outcome After × Mem). (w.0, with_items w.1 [])) (same_attempt pick s.core insn (behind s.core.regs count) 0 p.free mid cover plain ∙ p.failed),
+        );
       }
 
 -- ---- whole steps

@@ -9,7 +9,6 @@
 mod laws;
 
 pub use laws::operands_address_by_registers;
-
 use mdl_state::Fault;
 
 /// A descriptor: its two doublewords as they were read, the linear address of the first, and the
