@@ -68,13 +68,14 @@ module _ {S : Type 0} (pick : Pick) (window : S → Window) (r : Regs) (s e : S)
 
   cut : (fault : Fault) → decoded.IsCut (by_window pick window) false s fault e → Fetches (by_pick pick) r (window s).mem (Refused fault) (window e).mem
   unfolding fetch_plan
-  cut fault u = inr (inr (record {
+  cut fault u = let there = came_at pick window r 0 s u.bytes u.mid at u.came in inr (inr (record {
     bytes = u.bytes;
     before = (window u.mid).mem;
     within = u.within;
     fetched = came_fetched pick window r 0 s u.bytes u.mid at u.came;
     begun = subst (λ (big : Bool). Begun u.bytes big) (sym real) u.begun;
-    failed = cut_fetched pick r (length u.bytes) (window u.mid) (window e) fault (came_at pick window r 0 s u.bytes u.mid at u.came) u.fails;
+    failed = cut_fetched pick r (length u.bytes) (window u.mid) (window e) fault
+        (record { base = there.base; limit = there.limit; who = there.who; offset = (let o = there.offset in omega arith) }) u.fails;
   }))
 
   -- why there is no instruction, as a fault

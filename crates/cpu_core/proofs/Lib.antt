@@ -5,3 +5,4 @@ pub mod Fetched
 pub mod Settled
 pub mod Resumed
 pub mod Steps
+pub mod Ordinary

@@ -1,6 +1,6 @@
 -- Steps by their parts.
 use Rattle.std.proofs.Common.{◌≡◌, ℕ, zero, suc, ◌+◌, ◌*◌, ◌/◌, ◌%◌, ◌^◌, ◌==◌, ◌&&◌, ◌||◌, Bool, true, false, List, [], ◌∷◌, ◌++◌, refl, sym, ap, subst, ◌∙◌, arith, inl, inr}
-use Rattle.std.specs.Prelude.{IsTrue, ⊤, not, bit_or, max}
+use Rattle.std.specs.Prelude.{IsTrue, ⊤, if◌then◌else◌, not, bit_or, max}
 use Rattle.std.specs.Int.{bit_at}
 use Rattle.std.proofs.lemmas.Bool.{eqb-true}
 use Rattle.std.proofs.lemmas.List.{append-nil}
@@ -28,7 +28,7 @@ use Rattle.mdl_step.specs.Effects.{effect}
 use Rattle.mdl_step.specs.Fetching.{Code, Instruction, Refused, Fetches, fetch_plan}
 use Rattle.mdl_step.specs.Boundary as rows
 use Rattle.mdl_step.specs.Boundary.{Boundary, takes_trap, takes_break, takes_nmi, takes_line, hits_here, boundary_rows, boundary}
-use Rattle.mdl_step.specs.Step.{is_covered, behind, masks, hold_after, MovesBoard, completed, passed_by, faulted, attempted, executed, step_trap, task_trap, latches_after, Does, EndsBy, Step, Executes, row_of, UnbuiltBy, IsUnbuilt, ComesToFault}
+use Rattle.mdl_step.specs.Step.{is_covered, behind, landed, resumed, activity_after, masks, hold_after, MovesBoard, completed, passed_by, faulted, attempted, executed, step_trap, task_trap, latches_after, Does, EndsBy, Step, Executes, row_of, UnbuiltBy, IsUnbuilt, ComesToFault}
 use Rattle.mdl_step.specs.RunLaws.{SomeStep}
 use Rattle.mdl_step.proofs.StepLaws.{attempted_follows, FetchedBy, fetch_follows}
 use Rattle.cpu_core.specs.Plain.{IsPlain}
@@ -53,9 +53,9 @@ pub record Covered (r : Regs) : Type 0 where
 
 pub covered : (r : Regs) → is_covered r ≡ true → Covered r
 covered r e =
-    let one = both (not (bit r.cr0 0)) _ e in
-    let two = both (not (bit r.eflags 8)) _ one.1 in
-    record { real = truth _ one.0; trap = truth _ two.0; breakpoints = eqb-true _ _ two.1 }
+    let one = both (not (bit r.cr0 0) && not (bit r.eflags 8)) (r.dr7 % 0x100 == 0) e in
+    let two = both (not (bit r.cr0 0)) (not (bit r.eflags 8)) one.0 in
+    record { real = truth _ two.0; trap = truth _ two.1; breakpoints = eqb-true _ _ one.1 }
 
 clear : (n d : ℕ) → n / d % 2 ≡ 0 → (n / d % 2 == 1) ≡ false
 clear n d e = rw e refl
@@ -185,6 +185,14 @@ pub latches_left : (op : Op) (after : Next) (r : Regs) (latches : Latches) → i
 latches_left op after r latches e o = rw (untrapped after r o (covered r e).trap, taskless after o) (ap (λ (n : ℕ). record latches { masked = masks op latches.masked; hold = hold_after after; pending = n })
     (ap (bit_or latches.pending) (ap (bit_or 0) (or_zero 0) ∙ or_zero 0) ∙ or_zero latches.pending))
 
+-- what the processor is left as, by its parts
+pub left_by : (core : Core) (insn : Insn) (new : Regs) (after : Next) (back : ℕ) (regs : Regs) (activity : Activity) (masked : Bool) (hold : ℕ)
+    → is_covered core.regs ≡ true → IsOrdinary after → regs ≡ resumed insn.op after (landed after new back) → activity ≡ activity_after after
+    → masked ≡ masks insn.op core.latches.masked → hold ≡ hold_after after
+    → record core { regs = regs; activity = activity; latches = record core.latches { masked = masked; hold = hold } } ≡ completed core insn (record { regs = new; next = after; access = NoPort }) back 0
+left_by core insn new after back regs activity masked hold e o a b c d =
+    rw (a, b, c, d) (ap (λ (l : Latches). record core { regs = resumed insn.op after (landed after new back); activity = activity_after after; latches = l }) (sym (latches_left insn.op after core.regs core.latches e o)))
+
 ordinarily : (after : Next) (serve : Serve) (core : Core) (insn : Insn) (left : After) (back hits : ℕ) (m : Mem) → IsOrdinary after
     → passed_by after serve core insn left back hits m ≡ (Passed (completed core insn left back hits), m)
 ordinarily (next.Soft vector) serve core insn left back hits m o = absurd o
@@ -197,43 +205,40 @@ ordinarily next.HoldAll serve core insn left back hits m o = refl
 ordinarily next.HoldIntr serve core insn left back hits m o = refl
 
 module _ {B : Type 0} (rules : Rules B) (pick : Pick) (policy : Policy) (meets : Meets pick policy) (m : Machine B) (mid : Mem) where
-  abbrev s : State
-  s = m.state
-
   module _ (insn : Insn) (count : ℕ) (new : Regs) (after : Next) (k : Mem)
-      (cover : is_covered s.core.regs ≡ true) (plain : IsPlain mid) (left : IsPlain k)
-      (f : Fetches (by_pick pick) s.core.regs s.mem (Instruction insn count) mid)
-      (p : Passes pick insn s.core.regs (behind s.core.regs count) mid new after k) where
+      (cover : is_covered m.state.core.regs ≡ true) (plain : IsPlain mid) (left : IsPlain k)
+      (f : Fetches (by_pick pick) m.state.core.regs m.state.mem (Instruction insn count) mid)
+      (p : Passes pick insn m.state.core.regs (behind m.state.core.regs count) mid new after k) where
     abbrev done : After
     done = record { regs = new; next = after; access = NoPort }
 
-    first : FetchedBy pick policy meets s.core.regs s.mem (Instruction insn count) mid
-    first = fetch_follows pick policy meets s.core.regs s.mem (Instruction insn count) mid f
+    abbrev first : FetchedBy pick policy meets m.state.core.regs m.state.mem (Instruction insn count) mid
+    first = fetch_follows pick policy meets m.state.core.regs m.state.mem (Instruction insn count) mid f
 
-    second : Follows mid (attempted (by_pick pick) s.core insn (behind s.core.regs count) 0 new.eflags mid) (λ n. attempted (by_list policy) s.core insn (behind s.core.regs count) 0 new.eflags n)
-    second = attempted_follows pick policy meets s.core insn (behind s.core.regs count) 0 new.eflags mid
+    abbrev second : Follows mid (attempted (by_pick pick) m.state.core insn (behind m.state.core.regs count) 0 new.eflags mid) (λ n. attempted (by_list policy) m.state.core insn (behind m.state.core.regs count) 0 new.eflags n)
+    second = attempted_follows pick policy meets m.state.core insn (behind m.state.core.regs count) 0 new.eflags mid
 
-    picked : attempted (by_pick pick) s.core insn (behind s.core.regs count) 0 new.eflags mid ≡ (Passed done, k)
-    picked = same_attempt pick s.core insn (behind s.core.regs count) 0 new.eflags mid cover plain ∙ p.passed
+    picked : attempted (by_pick pick) m.state.core insn (behind m.state.core.regs count) 0 new.eflags mid ≡ (Passed done, k)
+    picked = same_attempt pick m.state.core insn (behind m.state.core.regs count) 0 new.eflags mid cover plain ∙ p.passed
 
     tidy : unwatched (with_items k []) ≡ k
     tidy = ap (λ (is : List Item). unwatched (with_items k is)) (sym left.served) ∙ ap (λ (ws : List Watch). watching k ws 0) (sym left.watch) ∙ ap (λ (h : ℕ). watching k k.watch h) (sym left.hits)
 
-    listed : attempted (by_list policy) s.core insn (behind s.core.regs count) 0 new.eflags (with_items mid second.items) ≡ (Passed done, with_items k [])
-    listed = ap (λ (is : List Item). attempted (by_list policy) s.core insn (behind s.core.regs count) 0 new.eflags (with_items mid is)) (sym (append-nil second.items))
+    listed : attempted (by_list policy) m.state.core insn (behind m.state.core.regs count) 0 new.eflags (with_items mid second.items) ≡ (Passed done, with_items k [])
+    listed = ap (λ (is : List Item). attempted (by_list policy) m.state.core insn (behind m.state.core.regs count) 0 new.eflags (with_items mid is)) (sym (append-nil second.items))
         ∙ second.same [] ∙ ap (λ (w : Outcome After × Mem). (w.0, with_items w.1 [])) picked
 
-    choice : Choice
+    abbrev choice : Choice
     choice = record { flags = new.eflags; served = first.items ++ second.items }
 
-    became : executed (by_list policy) s.core insn (behind s.core.regs count) 0 new.eflags (with_items mid second.items) ≡ (Passed (completed s.core insn done (behind s.core.regs count) 0), k)
-    became = ap (λ (w : Outcome After × Mem). handled w (λ left n. passed_by left.next (by_list policy) s.core insn left (behind s.core.regs count) n.hits (unwatched n)) (λ fault n. faulted (by_list policy) s.core fault (unwatched n))) listed
-        ∙ ordinarily after (by_list policy) s.core insn done (behind s.core.regs count) k.hits (unwatched (with_items k [])) p.ordinary
-        ∙ ap (λ (h : ℕ). (Passed (completed s.core insn done (behind s.core.regs count) h), unwatched (with_items k []))) left.hits
-        ∙ ap (λ (n : Mem). (Passed (completed s.core insn done (behind s.core.regs count) 0), n)) tidy
+    became : executed (by_list policy) m.state.core insn (behind m.state.core.regs count) 0 new.eflags (with_items mid second.items) ≡ (Passed (completed m.state.core insn done (behind m.state.core.regs count) 0), k)
+    became = ap (λ (w : Outcome After × Mem). handled w (λ left n. passed_by left.next (by_list policy) m.state.core insn left (behind m.state.core.regs count) n.hits (unwatched n)) (λ fault n. faulted (by_list policy) m.state.core fault (unwatched n))) listed
+        ∙ ordinarily after (by_list policy) m.state.core insn done (behind m.state.core.regs count) k.hits (unwatched (with_items k [])) p.ordinary
+        ∙ ap (λ (h : ℕ). (Passed (completed m.state.core insn done (behind m.state.core.regs count) h), unwatched (with_items k []))) left.hits
+        ∙ ap (λ (n : Mem). (Passed (completed m.state.core insn done (behind m.state.core.regs count) 0), n)) tidy
 
     -- the instruction is executed
-    pub made : (n : Machine B) → n ≡ record { state = record { core = completed s.core insn done (behind s.core.regs count) 0; mem = k }; board = m.board } → SomeExecution rules policy m n
+    pub made : (n : Machine B) → n ≡ record { state = record { core = completed m.state.core insn done (behind m.state.core.regs count) 0; mem = k }; board = m.board } → SomeExecution rules policy m n
     made n is = subst (λ (x : Machine B). SomeExecution rules policy m x) (sym is) (record {
       choice = choice;
       executes = record {
@@ -244,28 +249,28 @@ module _ {B : Type 0} (rules : Rules B) (pick : Pick) (policy : Policy) (meets :
         comes = (0, moved, became);
         wholly = left.served;
       };
-      walks = ap (λ (w : Outcome After × Mem). w.1.walks) (sym picked) ∙ second.walks ∙ ap (walks_after second.items) first.walks ∙ sym (walks_after-append first.items second.items s.mem.walks);
+      walks = ap (λ (w : Outcome After × Mem). w.1.walks) (sym picked) ∙ second.walks ∙ ap (walks_after second.items) first.walks ∙ sym (walks_after-append first.items second.items m.state.mem.walks);
     })
       where
-        moved : MovesBoard rules (attempted (by_list policy) s.core insn (behind s.core.regs count) 0 new.eflags (with_items mid second.items)).0 0 m.board m.board
+        moved : MovesBoard rules (attempted (by_list policy) m.state.core insn (behind m.state.core.regs count) 0 new.eflags (with_items mid second.items)).0 0 m.board m.board
         moved = subst (λ (w : Outcome After × Mem). MovesBoard rules w.0 0 m.board m.board) (sym listed) refl
 
   -- the fetch refuses
-  pub refused : (fault : Fault) → Fetches (by_pick pick) s.core.regs s.mem (Refused fault) mid → ComesToFault policy s
-  refused fault f = let first = fetch_follows pick policy meets s.core.regs s.mem (Refused fault) mid f in record {
+  pub refused : (fault : Fault) → Fetches (by_pick pick) m.state.core.regs m.state.mem (Refused fault) mid → ComesToFault policy m.state
+  refused fault f = let first = fetch_follows pick policy meets m.state.core.regs m.state.mem (Refused fault) mid f in record {
     choice = record { flags = 0; served = first.items };
     code = Refused fault;
     mid = with_items mid [];
-    fetched = subst (λ (is : List Item). Fetches (by_list policy) s.core.regs (with_items s.mem is) (Refused fault) (with_items mid [])) (append-nil first.items) (first.fetched []);
+    fetched = subst (λ (is : List Item). Fetches (by_list policy) m.state.core.regs (with_items m.state.mem is) (Refused fault) (with_items mid [])) (append-nil first.items) (first.fetched []);
     fault = tt;
   }
 
   -- the instruction faults
-  pub failed : (insn : Insn) (count : ℕ) → is_covered s.core.regs ≡ true → IsPlain mid → Fetches (by_pick pick) s.core.regs s.mem (Instruction insn count) mid
-      → Faults pick insn s.core.regs (behind s.core.regs count) mid → ComesToFault policy s
+  pub failed : (insn : Insn) (count : ℕ) → is_covered m.state.core.regs ≡ true → IsPlain mid → Fetches (by_pick pick) m.state.core.regs m.state.mem (Instruction insn count) mid
+      → Faults pick insn m.state.core.regs (behind m.state.core.regs count) mid → ComesToFault policy m.state
   failed insn count cover plain f p =
-      let first = fetch_follows pick policy meets s.core.regs s.mem (Instruction insn count) mid f in
-      let second = attempted_follows pick policy meets s.core insn (behind s.core.regs count) 0 p.free mid in record {
+      let first = fetch_follows pick policy meets m.state.core.regs m.state.mem (Instruction insn count) mid f in
+      let second = attempted_follows pick policy meets m.state.core insn (behind m.state.core.regs count) 0 p.free mid in record {
         choice = record { flags = 0; served = first.items ++ second.items };
         code = Instruction insn count;
         mid = with_items mid second.items;
@@ -275,8 +280,8 @@ module _ {B : Type 0} (rules : Rules B) (pick : Pick) (policy : Policy) (meets :
           p.free,
           p.fault,
           with_items p.left [],
-          ap (λ (is : List Item). attempted (by_list policy) s.core insn (behind s.core.regs count) 0 p.free (with_items mid is)) (sym (append-nil second.items))
-              ∙ second.same [] ∙ ap (λ (w : Outcome After × Mem). (w.0, with_items w.1 [])) (same_attempt pick s.core insn (behind s.core.regs count) 0 p.free mid cover plain ∙ p.failed),
+          ap (λ (is : List Item). attempted (by_list policy) m.state.core insn (behind m.state.core.regs count) 0 p.free (with_items mid is)) (sym (append-nil second.items))
+              ∙ second.same [] ∙ ap (λ (w : Outcome After × Mem). (w.0, with_items w.1 [])) (same_attempt pick m.state.core insn (behind m.state.core.regs count) 0 p.free mid cover plain ∙ p.failed),
         );
       }
 

@@ -81,7 +81,9 @@ came_fetched pick window r n s (b ∷ bytes) e at came =
 -- and the window then is behind it
 pub came_at : {S : Type 0} (pick : Pick) (window : S → Window) (r : Regs) (n : ℕ) (s : S) (bytes : List ℕ) (e : S) → IsAt r n (window s)
     → Came (by_window pick window) s bytes e → IsAt r (n + length bytes) (window e)
-came_at pick window r n s [] e at came = subst (λ (t : _). IsAt r n (window t)) (sym came) at
+came_at pick window r n s [] e at came =
+    let there = subst (λ (t : _). IsAt r n (window t)) (sym came) at in
+    record { base = there.base; limit = there.limit; who = there.who; offset = (let o = there.offset in omega arith) }
 came_at pick window r n s (b ∷ bytes) e at came =
     let there = came_at pick window r (n + 1) came.0 bytes e (next_at r n pick (window s) (window came.0) b at came.1) came.2 in
     record { base = there.base; limit = there.limit; who = there.who; offset = (let o = there.offset in omega arith) }

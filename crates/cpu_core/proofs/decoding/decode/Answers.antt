@@ -10,28 +10,24 @@ use Rattle.cpu_core.proofs.decoding.decode.Goals as goal
 
 pub returns-in-Ok-clause-found : goal.returns-in-Ok-clause-found
 returns-in-Ok-clause-found g c = λ flags.
-    let window = λ s. record { base = s.base; limit = s.limit; who = s.who; offset = s.offset; mem = g.L.Linear.seen s.lin } in
     let r = whole c.args.regs.now flags in
     subst (λ (m : Mem). Fetches (by_pick g.L.Linear.pick) r m (Instruction c.decode_into.new.insn c.in-Ok.count) (g.L.Linear.seen c.decode_into.new.fetch.lin)) (ap g.L.Linear.seen c.start.ensures.memory)
-    (takes g.L.Linear.pick window r c.start.new.self c.decode_into.new.fetch (started c.args.regs.now flags _ c.start.ensures.base c.start.ensures.limit c.start.ensures.who c.start.ensures.offset) (narrow r c.requires.mode)
+    (takes g.L.Linear.pick (λ s. record { base = s.base; limit = s.limit; who = s.who; offset = s.offset; mem = g.L.Linear.seen s.lin }) r c.start.new.self c.decode_into.new.fetch (started c.args.regs.now flags _ c.start.ensures.base c.start.ensures.limit c.start.ensures.who c.start.ensures.offset) (narrow r c.requires.mode)
     c.decode_into.new.insn c.in-Ok.count c.in-Ok.ensures.ok)
 
 pub returns-in-Ok-clause-memory : goal.returns-in-Ok-clause-memory
 returns-in-Ok-clause-memory g c =
-    let window = λ s. record { base = s.base; limit = s.limit; who = s.who; offset = s.offset; mem = g.L.Linear.seen s.lin } in
-    takes_same g.L.Linear.pick window c.start.new.self c.decode_into.new.fetch (subst IsPlain (sym (ap g.L.Linear.seen c.start.ensures.memory)) c.requires.plain) c.decode_into.new.insn c.in-Ok.count c.in-Ok.ensures.ok
+    takes_same g.L.Linear.pick (λ s. record { base = s.base; limit = s.limit; who = s.who; offset = s.offset; mem = g.L.Linear.seen s.lin }) c.start.new.self c.decode_into.new.fetch (subst IsPlain (sym (ap g.L.Linear.seen c.start.ensures.memory)) c.requires.plain) c.decode_into.new.insn c.in-Ok.count c.in-Ok.ensures.ok
     ∙ ap g.L.Linear.seen c.start.ensures.memory
 
 pub returns-in-Err-clause-refused : goal.returns-in-Err-clause-refused
 returns-in-Err-clause-refused g c = λ flags.
-    let window = λ s. record { base = s.base; limit = s.limit; who = s.who; offset = s.offset; mem = g.L.Linear.seen s.lin } in
     let r = whole c.args.regs.now flags in
     subst (λ (m : Mem). (fault : Fault) × Fetches (by_pick g.L.Linear.pick) r m (Refused fault) (g.L.Linear.seen c.decode_into.new.fetch.lin)) (ap g.L.Linear.seen c.start.ensures.memory)
-    (refuses g.L.Linear.pick window r c.start.new.self c.decode_into.new.fetch (started c.args.regs.now flags _ c.start.ensures.base c.start.ensures.limit c.start.ensures.who c.start.ensures.offset) (narrow r c.requires.mode)
+    (refuses g.L.Linear.pick (λ s. record { base = s.base; limit = s.limit; who = s.who; offset = s.offset; mem = g.L.Linear.seen s.lin }) r c.start.new.self c.decode_into.new.fetch (started c.args.regs.now flags _ c.start.ensures.base c.start.ensures.limit c.start.ensures.who c.start.ensures.offset) (narrow r c.requires.mode)
     _ c.in-Err.ensures.err)
 
 pub returns-in-Err-clause-memory : goal.returns-in-Err-clause-memory
 returns-in-Err-clause-memory g c =
-    let window = λ s. record { base = s.base; limit = s.limit; who = s.who; offset = s.offset; mem = g.L.Linear.seen s.lin } in
-    refuses_same g.L.Linear.pick window c.start.new.self c.decode_into.new.fetch (subst IsPlain (sym (ap g.L.Linear.seen c.start.ensures.memory)) c.requires.plain) _ c.in-Err.ensures.err
+    refuses_same g.L.Linear.pick (λ s. record { base = s.base; limit = s.limit; who = s.who; offset = s.offset; mem = g.L.Linear.seen s.lin }) c.start.new.self c.decode_into.new.fetch (subst IsPlain (sym (ap g.L.Linear.seen c.start.ensures.memory)) c.requires.plain) _ c.in-Err.ensures.err
     ∙ ap g.L.Linear.seen c.start.ensures.memory
