@@ -1,10 +1,9 @@
 -- What decoding says of the instruction at CS:EIP.
-use Rattle.std.proofs.Common.{◌≡◌, ℕ, ◌+◌, Bool, false, List, [], ◌∷◌, ◌++◌, length, refl, sym, ap, subst, ◌∙◌, arith, inl, inr, length-append}
+use Rattle.std.proofs.Common.{◌≡◌, ℕ, Bool, false, [], ◌∷◌, ◌++◌, length, refl, sym, subst, ◌∙◌, arith, inl, inr, length-append}
 use Rattle.mdl_state.specs.declared.Regs.{Regs}
 use Rattle.mdl_state.specs.declared.Fault.{Fault}
 use Rattle.mdl_state.specs.declared.Seg.TheVariants.{Cs}
 use Rattle.mdl_state.specs.Registers.{seg_of}
-use Rattle.mdl_state.specs.State.{Mem}
 use Rattle.mdl_state.specs.Serving.{Pick, by_pick, Passed}
 use Rattle.mdl_state.specs.Attempt.{tried}
 use Rattle.mdl_cpu.specs.Segments.{who_of, has_protection}

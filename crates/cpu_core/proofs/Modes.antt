@@ -1,14 +1,9 @@
 -- The kept status flags are not of the mode.
-use Rattle.std.proofs.Common.{◌≡◌, ◌≢◌, ℕ, Bool, refl, sym, ap, arith, ◌∙◌, inl, inr}
-use Rattle.std.specs.Int.{bit_at, from_bool}
-use Rattle.std.proofs.lemmas.Bool.{cases_eq}
-use Rattle.std.proofs.lemmas.Nat.Bits.{same_from_bits}
+use Rattle.std.proofs.Common.{◌≡◌, ℕ, Bool, refl, arith}
+use Rattle.std.specs.Int.{bit_at}
 use Rattle.mdl_state.specs.declared.Regs.{Regs}
 use Rattle.mdl_state.specs.declared.Latches.{Latches}
-use Rattle.mdl_num.specs.Flags.{with_bit}
-use Rattle.mdl_num.specs.declared.status.TheConstants.{CF, PF, AF, ZF, SF, OF}
-use Rattle.mdl_num.proofs.Places.{bit_at-with_bit, bit_at-with_bit_other}
-use Rattle.mdl_cpu.specs.SystemFlags.{TF, IF, RF}
+use Rattle.mdl_cpu.specs.SystemFlags.{TF, IF}
 use Rattle.mdl_step.specs.Boundary.{takes_line}
 use Rattle.mdl_step.specs.Step.{is_covered}
 use Rattle.lazy_flags.specs.Keeper.{with_status}

@@ -6,7 +6,7 @@ use Rattle.mdl_state.specs.declared.Next.{Next}
 use Rattle.mdl_state.specs.declared.Regs.{Regs}
 use Rattle.mdl_state.specs.Ends.{IfPassed}
 use Rattle.mdl_insn.specs.declared.instruction.Insn.{Insn}
-use Rattle.mdl_effect.specs.Operands.{After, IsOrdinary, no_such}
+use Rattle.mdl_effect.specs.Operands.{IsOrdinary, no_such}
 use Rattle.mdl_effect.specs.DataEffects.{runs_data}
 use Rattle.mdl_effect.specs.FlowEffects.{runs_flow}
 use Rattle.mdl_effect.specs.StringEffects.{runs_string}

@@ -1,6 +1,6 @@
 -- RF stands beside the kept status flags.
-use Rattle.std.proofs.Common.{◌≡◌, ◌≢◌, ℕ, ◌<◌, Bool, true, false, inl, inr, refl, sym, ◌∙◌, ap, arith}
-use Rattle.std.specs.Int.{bit_at, from_bool}
+use Rattle.std.proofs.Common.{◌≡◌, ◌≢◌, ℕ, ◌<◌, true, false, inl, inr, refl, sym, ◌∙◌, ap, arith}
+use Rattle.std.specs.Int.{from_bool}
 use Rattle.std.proofs.lemmas.Bool.{cases_eq}
 use Rattle.std.proofs.lemmas.Nat.Bits.{same_from_bits}
 use Rattle.mdl_state.specs.declared.Regs.{Regs}

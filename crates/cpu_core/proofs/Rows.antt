@@ -1,9 +1,9 @@
 -- The row of the boundary that is told.
 use Rattle.std.proofs.Common.{◌≡◌, ℕ, ◌||◌, Bool, true, false, refl}
-use Rattle.std.specs.Prelude.{⊤, if◌then◌else◌}
+use Rattle.std.specs.Prelude.{if◌then◌else◌}
 use Rattle.mdl_state.specs.declared.Regs.{Regs}
 use Rattle.mdl_state.specs.declared.Latches.{Latches}
-use Rattle.mdl_state.specs.declared.Activity.TheVariants.{Running, Halted, Shutdown}
+use Rattle.mdl_state.specs.declared.Activity.TheVariants.{Running, Halted}
 use Rattle.mdl_step.specs.Boundary as rows
 use Rattle.mdl_step.specs.Boundary.{Boundary, takes_trap, takes_break, takes_nmi, takes_line, boundary_rows}
 use Rattle.cpu_core.specs.Rows.{IsDelivery, MayExecute}

@@ -1,7 +1,6 @@
 -- Steps by their parts.
-use Rattle.std.proofs.Common.{◌≡◌, ℕ, zero, suc, ◌+◌, ◌*◌, ◌/◌, ◌%◌, ◌^◌, ◌==◌, ◌&&◌, ◌||◌, Bool, true, false, List, [], ◌∷◌, ◌++◌, refl, sym, ap, subst, ◌∙◌, arith, inl, inr}
-use Rattle.std.specs.Prelude.{IsTrue, ⊤, if◌then◌else◌, not, bit_or, max}
-use Rattle.std.specs.Int.{bit_at}
+use Rattle.std.proofs.Common.{◌≡◌, ℕ, ◌/◌, ◌%◌, ◌==◌, ◌&&◌, Bool, true, false, List, [], ◌++◌, refl, sym, ap, subst, ◌∙◌, arith, inl, inr}
+use Rattle.std.specs.Prelude.{if◌then◌else◌, not, bit_or}
 use Rattle.std.proofs.lemmas.Bool.{eqb-true}
 use Rattle.std.proofs.lemmas.List.{append-nil}
 use Rattle.std.proofs.lemmas.Nat.Bits.{bit_at_or, bit_at-zero, same_from_bits}
@@ -17,18 +16,18 @@ use Rattle.mdl_state.specs.State.{Mem, Item, Core, State, Choice}
 use Rattle.mdl_state.specs.Machine.{Rules, Machine}
 use Rattle.mdl_state.specs.Bytes.{bit}
 use Rattle.mdl_state.specs.Watches.{watching, unwatched}
-use Rattle.mdl_state.specs.Serving.{Serve, Pick, Policy, Outcome, Passed, Failed, NoStep, handled, by_pick, by_list, with_items}
+use Rattle.mdl_state.specs.Serving.{Serve, Pick, Policy, Outcome, Passed, handled, by_pick, by_list, with_items}
 use Rattle.mdl_state.specs.Choices.{Meets, Follows, walks_after, walks_after-append}
-use Rattle.mdl_state.specs.Attempt.{Plan, tried, attempt}
+use Rattle.mdl_state.specs.Attempt.{attempt}
 use Rattle.mdl_insn.specs.declared.instruction.Insn.{Insn}
 use Rattle.mdl_insn.specs.declared.mnemonics.Op.{Op}
 use Rattle.mdl_cpu.specs.Breakpoints.{is_enabled, data_breakpoints, execution_hits}
 use Rattle.mdl_effect.specs.Operands.{After, NoPort, IsOrdinary}
 use Rattle.mdl_step.specs.Effects.{effect}
-use Rattle.mdl_step.specs.Fetching.{Code, Instruction, Refused, Fetches, fetch_plan}
+use Rattle.mdl_step.specs.Fetching.{Instruction, Refused, Fetches}
 use Rattle.mdl_step.specs.Boundary as rows
 use Rattle.mdl_step.specs.Boundary.{Boundary, takes_trap, takes_break, takes_nmi, takes_line, hits_here, boundary_rows, boundary}
-use Rattle.mdl_step.specs.Step.{is_covered, behind, landed, resumed, activity_after, masks, hold_after, MovesBoard, completed, passed_by, faulted, attempted, executed, step_trap, task_trap, latches_after, Does, EndsBy, Step, Executes, row_of, UnbuiltBy, IsUnbuilt, ComesToFault}
+use Rattle.mdl_step.specs.Step.{is_covered, behind, landed, resumed, activity_after, masks, hold_after, MovesBoard, completed, passed_by, faulted, attempted, executed, step_trap, task_trap, latches_after, Does, EndsBy, row_of, UnbuiltBy, IsUnbuilt, ComesToFault}
 use Rattle.mdl_step.specs.RunLaws.{SomeStep}
 use Rattle.mdl_step.proofs.StepLaws.{attempted_follows, FetchedBy, fetch_follows}
 use Rattle.cpu_core.specs.Plain.{IsPlain}

@@ -1,5 +1,5 @@
 -- Code as it is fetched from memory, one byte after the other. Manual, chapter 6.
-use Rattle.std.specs.Prelude.{◌≡◌, ℕ, ◌+◌, ◌%◌, ◌^◌, nat_le, if◌then◌else◌, Result, OnOk, OnErr}
+use Rattle.std.specs.Prelude.{◌≡◌, ℕ, ◌+◌, ◌%◌, ◌^◌, nat_le, if◌then◌else◌, Result, OnOk}
 use Rattle.mdl_state.specs.declared.Size.TheVariants.{B1}
 use Rattle.mdl_state.specs.declared.Seg.TheVariants.{Cs}
 use Rattle.mdl_state.specs.declared.Regs.{Regs}

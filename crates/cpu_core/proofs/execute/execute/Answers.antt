@@ -1,4 +1,4 @@
-use Rattle.std.proofs.Common.{◌≡◌, sym, ap, subst, ◌∙◌}
+use Rattle.std.proofs.Common.{sym, ap, subst, ◌∙◌}
 use Rattle.mdl_state.specs.State.{Mem}
 use Rattle.mdl_state.specs.Serving.{Outcome, by_pick}
 use Rattle.mdl_state.specs.Attempt.{finished}

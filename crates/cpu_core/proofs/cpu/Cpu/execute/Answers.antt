@@ -1,5 +1,5 @@
 use Rattle.std.proofs.Common.{◌≡◌, sym, ap, subst, ◌∙◌}
-use Rattle.mdl_state.specs.State.{Mem, Core}
+use Rattle.mdl_state.specs.State.{Core}
 use Rattle.mdl_state.specs.Machine.{Machine}
 use Rattle.mem_iface.specs.Rules.{rules_of}
 use Rattle.mdl_step.specs.Boundary as rows

@@ -1,10 +1,9 @@
-use Rattle.std.proofs.Common.{◌≡◌, Bool, sym, ap, subst, ◌∙◌}
+use Rattle.std.proofs.Common.{◌≡◌, Bool, subst}
 use Rattle.mdl_state.specs.Machine.{Machine}
 use Rattle.mem_iface.specs.Rules.{rules_of}
 use Rattle.mdl_step.specs.Boundary as rows
 use Rattle.mdl_step.specs.Boundary.{hits_here, boundary_rows, boundary}
 use Rattle.mdl_step.specs.Step.{EndsBy, row_of, IsUnbuilt}
-use Rattle.mdl_step.specs.RunLaws.{SomeStep}
 use Rattle.operands.specs.Whole.{whole}
 use Rattle.cpu_core.specs.Rows.{IsDelivery, MayExecute}
 use Rattle.cpu_core.proofs.Steps.{delivers, idled, stepped}
