@@ -120,7 +120,7 @@ fn fill(disk: &mut Disk, count: u32, byte: u8) -> u32 {
 
 /// A byte of the disk, if it has it.
 fn byte(disk: &Disk, at: u32) -> Option<u8> {
-    if at / 512 < disk.total() {
+    if at < disk.len() {
         Some(disk.byte(at))
     } else {
         None
