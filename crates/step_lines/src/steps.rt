@@ -75,6 +75,7 @@ fn set_mode(regs: &mut Regs, family: Family, big: bool)
 }
 
 /// An instruction in an attempt, by its crate. `back` is the EIP behind it.
+#[tactic(auto, using(mdl_step::proofs::EffectLaws::effects))]
 fn execute<L: Linear>(
     regs: &mut Regs,
     flags: &mut Flags,
@@ -103,7 +104,7 @@ fn land(regs: &mut Regs, next: Next, back: u32)
     ensures { regs.new ≡ landed next regs.old back }
 {
     match next {
-        Next::Landed | Next::Again => {}
+        Next::Landed | Next::Again | Next::Soft(_) | Next::Task(_) => {}
         _ => regs.eip = back,
     }
 }
