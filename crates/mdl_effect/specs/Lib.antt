@@ -1,4 +1,5 @@
 pub mod Operands
+pub mod Ports
 pub mod Moves
 pub mod Arithmetic
 pub mod Shifts

@@ -22,7 +22,8 @@ use Rattle.mdl_cpu.specs.declared.Cause.{Cause}
 use Rattle.mdl_insn.specs.declared.instruction.Insn.{Insn}
 use Rattle.mdl_insn.specs.declared.mnemonics.Op.{Op}
 use Rattle.mdl_insn.specs.declared.mnemonics.Op.TheVariants as ops
-use Rattle.mdl_effect.specs.Operands.{After, PortUse, NoPort, Reads, Writes}
+use Rattle.mdl_effect.specs.Operands.{After}
+use Rattle.mdl_effect.specs.Ports.{Accesses}
 use Rattle.mdl_step.specs.Effects.{effect}
 use Rattle.mdl_step.specs.Fetching.{Code, Instruction, Refused, Fetches}
 use Rattle.mdl_step.specs.Boundary.{Boundary, Idle, Trap, Break, Nmi, Line, Execute, boundary}
@@ -130,12 +131,6 @@ attempted serve core insn back given free m = attempt serve given (effect insn c
 abbrev pub executed : Serve → Core → Insn → ℕ → ℕ → ℕ → Mem → Outcome Core × Mem
 executed serve core insn back given free m = handled (attempted serve core insn back given free m)
     (λ after n. passed_by after.next serve core insn after back n.hits (unwatched n)) (λ fault n. faulted serve core fault (unwatched n))
-
--- the one port access that an instruction makes, by what the board gives or takes
-abbrev pub Accesses : {B : Type 0} → Rules B → PortUse → ℕ → B → B → Type 0
-Accesses rules NoPort given old new = new ≡ old
-Accesses rules (Reads port size) given old new = rules.gives old port size given new
-Accesses rules (Writes port size value) given old new = rules.takes old port size value new
 
 -- an instruction that faults leaves the board
 abbrev pub MovesBoard : {B : Type 0} → Rules B → Outcome After → ℕ → B → B → Type 0

@@ -8,7 +8,7 @@ use Rattle.mdl_state.specs.declared.Next.TheVariants.{Follow}
 use Rattle.mdl_state.specs.Attempt.{Plan, Fail}
 use Rattle.mdl_state.specs.Serving.{Outcome, Passed, Failed}
 use Rattle.mdl_insn.specs.declared.instruction.Operand.{Operand}
-use Rattle.mdl_effect.specs.Operands.{After, NoPort, follow, is_plain}
+use Rattle.mdl_effect.specs.Operands.{After, PortUse, NoPort, follow, is_plain}
 use Rattle.mdl_effect.specs.Forms.{IsOf, IsWithin}
 use Rattle.lazy_flags.specs.Keeper.{with_status}
 
@@ -25,6 +25,11 @@ after (Err fault) r = Failed fault
 abbrev pub ran : Result Next Fault → Regs → Outcome After
 ran (Ok next) r = Passed (record { regs = r; next = next; access = NoPort })
 ran (Err fault) r = Failed fault
+
+-- the same of an instruction that may use a port
+abbrev pub ran_at : Result Next Fault → PortUse → Regs → Outcome After
+ran_at (Ok next) access r = Passed (record { regs = r; next = next; access = access })
+ran_at (Err fault) access r = Failed fault
 
 -- the same as a plan
 abbrev pub done : Result (Unit {0}) Fault → Regs → Plan After
