@@ -1,13 +1,15 @@
 -- What the string instructions do, one iteration at a time. Manual, chapter 17, under MOVS, CMPS, STOS, LODS,
--- SCAS and REP.
+-- SCAS, INS, OUTS and REP.
 use Rattle.std.specs.Prelude.{ℕ, ◌+◌, ◌-◌, ◌%◌, ◌==◌, ◌&&◌, ◌||◌, not, Bool, true, false, if◌then◌else◌, unwrap_or}
 use Rattle.mdl_state.specs.declared.Size.{Size}
+use Rattle.mdl_state.specs.declared.Size.TheVariants.{B2}
 use Rattle.mdl_state.specs.declared.Seg.TheVariants.{Es, Ds}
+use Rattle.mdl_state.specs.declared.Access.TheVariants.{Write}
 use Rattle.mdl_state.specs.declared.Regs.{Regs}
 use Rattle.mdl_state.specs.declared.Next.TheVariants.{Follow, Again}
 use Rattle.mdl_state.specs.Bytes.{bytes_of, bound_of}
 use Rattle.mdl_state.specs.Registers.{reg_of, with_reg}
-use Rattle.mdl_state.specs.Attempt.{Plan, Done, then_plan}
+use Rattle.mdl_state.specs.Attempt.{Plan, Done, Translate, Hold, Input, then_plan, checked}
 use Rattle.mdl_num.specs.declared.status.TheConstants.{ZF}
 use Rattle.mdl_num.specs.Flags.{is_set}
 use Rattle.mdl_num.specs.Sums.{difference_status}
@@ -16,8 +18,9 @@ use Rattle.mdl_insn.specs.declared.instruction.Rep.{Rep}
 use Rattle.mdl_insn.specs.declared.instruction.Rep.TheVariants as rep
 use Rattle.mdl_insn.specs.declared.mnemonics.Op.{Op}
 use Rattle.mdl_insn.specs.declared.mnemonics.Op.TheVariants as ops
-use Rattle.mdl_effect.specs.Operands.{After, NoPort, follow, no_such, count_of, counted_down, address_size, DF, with_flags}
-use Rattle.mdl_cpu.specs.Access.{load_from, store_to}
+use Rattle.mdl_effect.specs.Operands.{After, PortUse, Reads, Writes, follow, no_such, count_of, counted_down, address_size, DF, with_flags}
+use Rattle.mdl_cpu.specs.Segments.{who_of}
+use Rattle.mdl_cpu.specs.Access.{legal, load_from, store_to}
 
 -- the mnemonics of strings
 abbrev pub runs_string : Op → Bool
@@ -26,6 +29,8 @@ runs_string ops.Cmps = true
 runs_string ops.Stos = true
 runs_string ops.Lods = true
 runs_string ops.Scas = true
+runs_string ops.Ins = true
+runs_string ops.Outs = true
 runs_string _ = false
 
 -- ---- indexes
@@ -83,16 +88,40 @@ unfoldable pub scan_string_plan : Insn → Regs → ℕ → Plan Regs
 scan_string_plan insn r free = then_plan (read_destination insn r) (λ b.
     Done (past_destination (compared r insn.size (reg_of r 0 insn.size) b free) insn))
 
--- the registers that an iteration leaves
-abbrev pub iterate_by : Op → Insn → Regs → ℕ → Plan Regs
-iterate_by ops.Movs insn r free = move_string_plan insn r
-iterate_by ops.Cmps insn r free = compare_strings_plan insn r free
-iterate_by ops.Stos insn r free = store_string_plan insn r
-iterate_by ops.Lods insn r free = load_string_plan insn r
-iterate_by ops.Scas insn r free = scan_string_plan insn r free
+-- ---- one iteration with a port, which real mode never refuses
+
+-- the port is that of DX
+abbrev pub string_port : Regs → ℕ
+string_port r = reg_of r 2 B2
+
+-- the instruction goes on behind itself, and uses a port
+abbrev pub follow_with : PortUse → Regs → Plan After
+follow_with access r = Done (record { regs = r; next = Follow; access = access })
+
+-- the destination is checked and translated, then the port is read, and then what it gives is held
+unfoldable pub input_string_plan : Insn → Regs → Plan After
+input_string_plan insn r = checked (legal r Es (destination_index r insn.wide) insn.size true) (λ at.
+    Translate at insn.size (Write (who_of r)) (λ place. Input (string_port r) insn.size (λ value.
+    Hold place insn.size value (follow_with (Reads (string_port r) insn.size) (past_destination r insn)))))
+
+-- the source is read, and then the port is written
+unfoldable pub output_string_plan : Insn → Regs → Plan After
+output_string_plan insn r = then_plan (read_source insn r) (λ value.
+    follow_with (Writes (string_port r) insn.size value) (past_source r insn))
+
+-- ---- one iteration by its mnemonic
+
+abbrev pub iterate_by : Op → Insn → Regs → ℕ → Plan After
+iterate_by ops.Movs insn r free = then_plan (move_string_plan insn r) follow
+iterate_by ops.Cmps insn r free = then_plan (compare_strings_plan insn r free) follow
+iterate_by ops.Stos insn r free = then_plan (store_string_plan insn r) follow
+iterate_by ops.Lods insn r free = then_plan (load_string_plan insn r) follow
+iterate_by ops.Scas insn r free = then_plan (scan_string_plan insn r free) follow
+iterate_by ops.Ins insn r free = input_string_plan insn r
+iterate_by ops.Outs insn r free = output_string_plan insn r
 iterate_by _ insn r free = no_such
 
-unfoldable pub iterate_plan : Insn → Regs → ℕ → Plan Regs
+unfoldable pub iterate_plan : Insn → Regs → ℕ → Plan After
 iterate_plan insn r free = iterate_by insn.op insn r free
 
 -- ---- repeats
@@ -112,14 +141,14 @@ abbrev pub goes_on : Insn → Regs → Bool
 goes_on insn r = not (count_of r insn.wide == 0) && (not (compares insn.op) || is_wanted insn.rep (is_set r.eflags ZF))
 
 -- an iteration is counted, and EIP stays at the instruction while it goes on
-abbrev pub counted_after : Insn → Regs → After
-counted_after insn r = record { regs = counted_down r insn.wide; next = if goes_on insn (counted_down r insn.wide) then Again else Follow; access = NoPort }
+abbrev pub counted_after : Insn → After → After
+counted_after insn after = record after { regs = counted_down after.regs insn.wide; next = if goes_on insn (counted_down after.regs insn.wide) then Again else Follow }
 
 -- one iteration, of a repeated instruction only where the count is not 0
 abbrev pub repeating : Rep → Insn → Regs → ℕ → Plan After
-repeating rep.Plain insn r free = then_plan (iterate_plan insn r free) follow
+repeating rep.Plain insn r free = iterate_plan insn r free
 repeating _ insn r free = if count_of r insn.wide == 0 then follow r
-    else then_plan (iterate_plan insn r free) (λ q. Done (counted_after insn q))
+    else then_plan (iterate_plan insn r free) (λ after. Done (counted_after insn after))
 
 unfoldable pub string_plan : Insn → Regs → ℕ → Plan After
 string_plan insn r free = repeating insn.rep insn r free
