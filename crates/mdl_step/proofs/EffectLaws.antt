@@ -57,6 +57,8 @@ string_only ops.Cmps a e = ((refl, refl, refl), refl)
 string_only ops.Stos a e = ((refl, refl, refl), refl)
 string_only ops.Lods a e = ((refl, refl, refl), refl)
 string_only ops.Scas a e = ((refl, refl, refl), refl)
+string_only ops.Ins a e = ((refl, refl, refl), refl)
+string_only ops.Outs a e = ((refl, refl, refl), refl)
 string_only _ a e = absurd (false≢true e)
 
 far_only : (op : Op) (a : Operand) → is_far_jump op a ≡ true → IsNoData op a × (is_flow op ≡ false) × (runs_string op ≡ false)
