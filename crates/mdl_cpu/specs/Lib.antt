@@ -5,5 +5,7 @@ pub mod SystemFlags
 pub mod Steady
 pub mod Access
 pub mod Stack
+pub mod Descriptors
 pub mod Loads
+pub mod Visibility
 pub mod Breakpoints

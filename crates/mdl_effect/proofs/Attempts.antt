@@ -7,7 +7,6 @@ use Rattle.mdl_state.specs.Attempt.{Plan, tried}
 use Rattle.mdl_state.specs.Ends.{IfPassed, tried_ends}
 use Rattle.mdl_insn.specs.declared.instruction.Insn.{Insn}
 use Rattle.mdl_insn.specs.Spelling.{Spelt}
-use Rattle.mdl_cpu.specs.Steady.{Steady}
 use Rattle.mdl_effect.specs.Operands.{After}
 use Rattle.mdl_effect.specs.DataEffects.{runs_data, data_effect}
 use Rattle.mdl_effect.specs.FlowEffects.{runs_flow, flow_effect}

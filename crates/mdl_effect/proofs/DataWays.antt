@@ -34,7 +34,8 @@ use Rattle.mdl_effect.specs.Kinds.{is_place, is_memory}
 use Rattle.mdl_effect.specs.Forms.{IsMove, IsFormedAs, IsFormed}
 use Rattle.mdl_effect.specs.Ways.{Leaves, IsComplete}
 use Rattle.mdl_effect.proofs.Registers.{stays, then_stays, reg_stays, flags_stay, value_stays}
-use Rattle.mdl_effect.proofs.Operations.{follows, Ways, passes, fails, either_way, is_read, place_read, value_read, direct_read, gpr_read, number_read, maybe_gpr_read, maybe_place_read, maybe_value_read, maybe_number_read, load_then, store_then, pop_then, segment_then, reads, writes, updates, changes_in}
+use Rattle.mdl_effect.proofs.Operations.{follows, Ways, passes, fails, either_way, is_read, place_read, value_read, direct_read, gpr_read, number_read, maybe_gpr_read, maybe_place_read, maybe_value_read, maybe_number_read, load_then, store_then, pop_then, reads, writes, updates, changes_in}
+use Rattle.mdl_effect.proofs.LoadWays.{segment_then}
 
 -- ---- sums, products and quotients
 

@@ -2,6 +2,7 @@ pub mod RowTests
 pub mod FormLaws
 pub mod Registers
 pub mod Operations
+pub mod LoadWays
 pub mod DataWays
 pub mod FlowWays
 pub mod StringWays

@@ -14,14 +14,13 @@ use Rattle.mdl_insn.specs.declared.instruction.Operand.TheVariants.{Nothing, Gpr
 use Rattle.mdl_cpu.specs.Segments.{who_of}
 use Rattle.mdl_cpu.specs.Addresses.{offset_of}
 use Rattle.mdl_cpu.specs.Access.{legal, segment_fault, load_from, store_to}
-use Rattle.mdl_cpu.specs.Loads.{load_plan, with_selector}
 use Rattle.mdl_cpu.specs.Stack.{push_plan, pop_plan}
 use Rattle.mdl_cpu.specs.Steady.{Steady}
 use Rattle.mdl_effect.specs.Operands.{After, Made, follow, is_nothing, memory_read, memory_write, memory_change, change_in, reading, writing, updating}
 use Rattle.mdl_effect.specs.Kinds.{is_gpr, is_number, is_place, is_direct, is_value, is_target}
 use Rattle.mdl_effect.specs.Jumps.{landing, target_by}
 use Rattle.mdl_effect.specs.Ways.{IsDefined, Leaves}
-use Rattle.mdl_effect.proofs.Registers.{then_stays, reg_stays, seg_stays, eip_stays}
+use Rattle.mdl_effect.proofs.Registers.{then_stays, reg_stays, eip_stays}
 
 -- ---- accesses
 
@@ -96,15 +95,6 @@ pop_way o r size h = load_then _ _ _ _ _ (λ value. passes (then_stays h (reg_st
 pub pop_then : {A : Type 0} {P : A → Type 0} (o r : Regs) (size : Size) (f : ℕ × Regs → Plan A) → Steady o r
     → ((popped : ℕ × Regs) → Steady o popped.1 → Ways P (f popped)) → Ways P (then_plan (pop_plan r size) f)
 pop_then o r size f h k = then_way (pop_way o r size h) k
-
-segment_way : (o r : Regs) (seg : Seg) (sel : ℕ) → Steady o r → Ways (Steady o) (load_plan r seg sel)
-unfolding load_plan with_selector
-segment_way o r seg sel h = passes (then_stays h (seg_stays r seg _))
-
--- what follows the load of a segment register
-pub segment_then : {A : Type 0} {P : A → Type 0} (o r : Regs) (seg : Seg) (sel : ℕ) (f : Regs → Plan A) → Steady o r
-    → ((q : Regs) → Steady o q → Ways P (f q)) → Ways P (then_plan (load_plan r seg sel) f)
-segment_then o r seg sel f h k = then_way (segment_way o r seg sel h) k
 
 -- ---- operands
 
