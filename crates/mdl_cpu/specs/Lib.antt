@@ -7,5 +7,5 @@ pub mod Access
 pub mod Stack
 pub mod Descriptors
 pub mod Loads
-pub mod Visibility
-pub mod Breakpoints
+pub mod Transfers
+pub mod Returns

@@ -10,6 +10,7 @@ pub mod Jumps
 pub mod FlagEffects
 pub mod FlowEffects
 pub mod StringEffects
+pub mod FarEffects
 pub mod Kinds
 pub mod Forms
 pub mod Ways

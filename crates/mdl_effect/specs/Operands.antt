@@ -17,6 +17,7 @@ use Rattle.mdl_insn.specs.declared.instruction.Operand.TheVariants.{Nothing, Gpr
 use Rattle.mdl_cpu.specs.Addresses.{offset_of}
 use Rattle.mdl_cpu.specs.Segments.{who_of}
 use Rattle.mdl_cpu.specs.Access.{legal, load_from, store_to}
+use Rattle.mdl_cpu.specs.SystemFlags as system
 
 -- the one port that an instruction reads or writes, behind all else that it does
 pub data PortUse : Type 0 where
@@ -86,7 +87,7 @@ counted_down r wide = with_reg r 1 (address_size wide) ((count_of r wide + (boun
 
 -- DF, by which strings go downwards
 abbrev pub DF : ℕ
-DF = 10
+DF = system.DF
 
 -- a register set
 abbrev pub with_value : Regs → Operand → ℕ → Regs
