@@ -7,5 +7,7 @@ pub mod Access
 pub mod Stack
 pub mod Descriptors
 pub mod Loads
+pub mod Visibility
 pub mod Transfers
 pub mod Returns
+pub mod Breakpoints

@@ -25,7 +25,7 @@ use Rattle.mdl_insn.specs.Prefixes.{has, operand_size_prefix, setting}
 use Rattle.mdl_insn.specs.Spelling.{size_of, insn_of, opcode_last, SpeltRow, Spelt}
 use Rattle.mdl_insn.proofs.PrefixEnds.{fit_back}
 use Rattle.mdl_effect.specs.Operands.{is_plain, is_nothing}
-use Rattle.mdl_effect.specs.Kinds.{is_gpr, is_number, is_memory, is_place, is_direct, is_value, is_relative, is_pushed, is_popped, is_target, is_far_target, is_accumulator, IsFar, IsPort}
+use Rattle.mdl_effect.specs.Kinds.{is_gpr, is_number, is_memory, is_place, is_direct, is_value, is_relative, is_pushed, is_popped, is_target, is_far_target, is_accumulator, is_control_number, is_debug_number, IsFar, IsPort}
 use Rattle.mdl_effect.specs.Forms.{IsOf, IsWithin, IsMove, IsFormed, Part, IsPart, Empty, Reg, Reg16, Memory, RegMem, RegMem8, RegMem16, Value, Narrow, Index, Count, Imm8, Imm16, OrReg, OrRegMem, OrValue, OrImm, OrImm16, Relative, Target, FarTarget, Pushed, Popped, Accumulator, Port, Shape, IsShape, Takes, Wide, Apart, OnCondition, Moves, shape_of}
 use Rattle.mdl_effect.proofs.RowTests.{row_tested}
 
@@ -532,13 +532,17 @@ from_segment (Gpr m own) n size wide e is = (wide, e, is)
 from_segment (At mem own) n size wide e is = (wide, e, is)
 from_segment _ n size wide e is = absurd cc
 
-from_control : (a : Operand) (n : ℕ) (size : Size) → size ≡ B4 → (is_gpr a ≡ true) × IsOf B4 a → IsMove a (Creg n) size
-from_control (Gpr m own) n size four e = (four, e.0, e.1)
-from_control _ n size four e = absurd cc
+from_control : (a : Operand) (n : ℕ) (size : Size) → is_control_number n ≡ true → size ≡ B4 → (is_gpr a ≡ true) × IsOf B4 a → IsMove a (Creg n) size
+from_control (Gpr m own) n size is four e = (is, four, e.0, e.1)
+from_control _ n size is four e = absurd cc
 
-from_debug : (a : Operand) (n : ℕ) (size : Size) → size ≡ B4 → (is_gpr a ≡ true) × IsOf B4 a → IsMove a (Dreg n) size
-from_debug (Gpr m own) n size four e = (four, e.0, e.1)
-from_debug _ n size four e = absurd cc
+from_debug : (a : Operand) (n : ℕ) (size : Size) → is_debug_number n ≡ true → size ≡ B4 → (is_gpr a ≡ true) × IsOf B4 a → IsMove a (Dreg n) size
+from_debug (Gpr m own) n size is four e = (is, four, e.0, e.1)
+from_debug _ n size is four e = absurd cc
+
+-- a number below 8 that is not 4 or 5
+debugs : (n : ℕ) → n < 8 → (not (n == 4) && not (n == 5)) ≡ true → is_debug_number n ≡ true
+debugs n small e = grind (arith, nat_tests)
 
 loaded : (n : ℕ) → not (n == 1) ≡ true → is_popped (Sreg (seg_at n)) ≡ true
 loaded n = elim (n == 1) as (λ v. not v ≡ true → is_popped (Sreg (cond (n == 0) segs.Es (cond v segs.Cs (cond (n == 2) segs.Ss (cond (n == 3) segs.Ds (cond (n == 4) segs.Fs segs.Gs)))))) ≡ true) [
@@ -560,30 +564,30 @@ loaded n = elim (n == 1) as (λ v. not v ≡ true → is_popped (Sreg (cond (n =
 
 -- ---- the instruction
 
-module _ (s : Setting) (p : Place) (x y z : ℕ) (w : Width) (a b c : Form) (wide : s.size ≢ B1) (allowed : form_allows a p.modrm ≡ true)
+module _ (s : Setting) (p : Place) (x y z : ℕ) (w : Width) (a b c : Form) (wide : s.size ≢ B1) (allowed : form_allows a p.modrm ≡ true) (second : form_allows b p.modrm ≡ true)
     (x_below : x < 256 ^ own_len s a) (y_below : y < 256 ^ own_len s b) (z_below : z < 256 ^ own_len s c) where
   moved_to : (form : Form) → form_allows form p.modrm ≡ true → moves_to w form b ≡ true → IsMove (operand s p form x) (operand s p b y) (size_of s w)
   moved_to Sd fine e =
       let q = three_parts _ _ _ e in
       (loaded (reg_of p.modrm) (and_parts _ _ fine).1, widened s w wide q.0, of_place s p b y q.1, word_of s p b y y_below q.2)
-  moved_to Cd fine e = let q = and_parts _ _ e in let g = four_of s p b y q.1 in (doubled s w q.0, g.0, g.1)
-  moved_to Dd fine e = let q = and_parts _ _ e in let g = four_of s p b y q.1 in (doubled s w q.0, g.0, g.1)
+  moved_to Cd fine e = let q = and_parts _ _ e in let g = four_of s p b y q.1 in (fine, doubled s w q.0, g.0, g.1)
+  moved_to Dd fine e = let q = and_parts _ _ e in let g = four_of s p b y q.1 in (debugs (reg_of p.modrm) (omega arith) fine, doubled s w q.0, g.0, g.1)
   moved_to _ fine e = absurd cc
 
-  moved_from : (form : Form) → moves_from w a form ≡ true → IsMove (operand s p a x) (operand s p form y) (size_of s w)
-  moved_from S e =
+  moved_from : (form : Form) → form_allows form p.modrm ≡ true → moves_from w a form ≡ true → IsMove (operand s p a x) (operand s p form y) (size_of s w)
+  moved_from S fine e =
       let q = three_parts _ _ _ e in
       from_segment (operand s p a x) (reg_of p.modrm) (size_of s w) (widened s w wide q.0) (of_place s p a x q.1) (word_of s p a x x_below q.2)
-  moved_from Cd e = let q = and_parts _ _ e in from_control (operand s p a x) (reg_of p.modrm) (size_of s w) (doubled s w q.0) (four_of s p a x q.1)
-  moved_from Dd e = let q = and_parts _ _ e in from_debug (operand s p a x) (reg_of p.modrm) (size_of s w) (doubled s w q.0) (four_of s p a x q.1)
-  moved_from _ e = absurd cc
+  moved_from Cd fine e = let q = and_parts _ _ e in from_control (operand s p a x) (reg_of p.modrm) (size_of s w) fine (doubled s w q.0) (four_of s p a x q.1)
+  moved_from Dd fine e = let q = and_parts _ _ e in from_debug (operand s p a x) (reg_of p.modrm) (size_of s w) (debugs (reg_of p.modrm) (omega arith) fine) (doubled s w q.0) (four_of s p a x q.1)
+  moved_from _ fine e = absurd cc
 
   apart : (meets is_plain a || meets is_plain b) ≡ true → (is_plain (operand s p a x) || is_plain (operand s p b y)) ≡ true
   apart e = more_either (meets is_plain a) (meets is_plain b) (is_plain (operand s p a x)) (is_plain (operand s p b y)) (of_plain s p a x) (of_plain s p b y) e
 
   moved : moves w a b ≡ true → IsMove (operand s p a x) (operand s p b y) (size_of s w)
   moved e = either (moves_to w a b) _ (IsMove (operand s p a x) (operand s p b y) (size_of s w)) (moved_to a allowed)
-      (either (moves_from w a b) _ (IsMove (operand s p a x) (operand s p b y) (size_of s w)) (moved_from b)
+      (either (moves_from w a b) _ (IsMove (operand s p a x) (operand s p b y) (size_of s w)) (moved_from b second)
       (λ rest. let q = three_parts _ _ _ rest in
       move_between (operand s p a x) (operand s p b y) (size_of s w) (part_of s p w a x wide x_below RegMem q.0) (part_of s p w b y wide y_below Value q.1) (apart q.2))) e
 
@@ -597,8 +601,8 @@ module _ (s : Setting) (p : Place) (x y z : ℕ) (w : Width) (a b c : Form) (wid
   shaped k i j l m (OnCondition number shape) e = let q = and_parts _ _ e in (below number 16 q.0, shaped k i j l m shape q.1)
   shaped k i j l m Moves e = let q = and_parts _ _ e in rw (i, j, l, m) (moved q.0, of_nothing s p c z q.1)
 
-first_allowed : (s : Setting) (r : Row) (m : ℕ) → allows s r m ≡ true → form_allows r.a m ≡ true
-first_allowed s r m e = (three_parts (form_allows r.a m) (form_allows r.b m) (not s.lock || (lockable r && nat_lt (mod_of m) 3)) e).0
+both_allowed : (s : Setting) (r : Row) (m : ℕ) → allows s r m ≡ true → (form_allows r.a m ≡ true) × (form_allows r.b m ≡ true)
+both_allowed s r m e = let q = three_parts (form_allows r.a m) (form_allows r.b m) (not s.lock || (lockable r && nat_lt (mod_of m) 3)) e in (q.0, q.1)
 
 spelt_row_formed : (s : Setting) (bytes : List ℕ) (insn : Insn) → s.size ≢ B1 → IsBytes bytes → (q : SpeltRow s bytes insn) → is_formed q.row ≡ true → IsFormed insn
 spelt_row_formed s bytes insn wide fit q tested =
@@ -612,7 +616,8 @@ spelt_row_formed s bytes insn wide fit q tested =
     let x_below = little_below q.x (q.y ++ q.z) (own_len s r.a) q.x_length x_fit in
     let y_below = little_below q.y q.z (own_len s r.b) q.y_length y_fit in
     let z_below = little_below q.z [] (own_len s r.c) q.z_length (subst (λ (k : List ℕ). IsBytes k) (sym (append-nil q.z)) z_fit) in
-    let all : IsFormed i = shaped s p (little q.x) (little q.y) (little q.z) r.width r.a r.b r.c wide (first_allowed s r (little q.modrm) q.allowed) x_below y_below z_below i refl refl refl refl (shape_of r.op) tested in
+    let fine = both_allowed s r (little q.modrm) q.allowed in
+    let all : IsFormed i = shaped s p (little q.x) (little q.y) (little q.z) r.width r.a r.b r.c wide fine.0 fine.1 x_below y_below z_below i refl refl refl refl (shape_of r.op) tested in
     subst (λ (k : Insn). IsFormed k) (sym q.insn_is) all
 
 -- what some bytes spell has the operands that its mnemonic takes

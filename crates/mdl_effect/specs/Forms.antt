@@ -10,7 +10,7 @@ use Rattle.mdl_insn.specs.declared.instruction.Operand.TheVariants.{Gpr, Imm, Sr
 use Rattle.mdl_insn.specs.declared.mnemonics.Op.{Op}
 use Rattle.mdl_insn.specs.declared.mnemonics.Op.TheVariants as ops
 use Rattle.mdl_effect.specs.Operands.{is_plain, is_nothing}
-use Rattle.mdl_effect.specs.Kinds.{is_gpr, is_number, is_memory, is_place, is_direct, is_value, is_relative, is_pushed, is_popped, is_target, is_far_target, is_accumulator, IsFar, IsPort}
+use Rattle.mdl_effect.specs.Kinds.{is_gpr, is_number, is_memory, is_place, is_direct, is_value, is_relative, is_pushed, is_popped, is_target, is_far_target, is_accumulator, is_control_number, is_debug_number, IsFar, IsPort}
 
 -- ---- sizes and numbers
 
@@ -98,11 +98,11 @@ pub data Shape : Type 0 where
 -- MOV of a segment, control or debug register, or of the size of the instruction. CS is no destination.
 abbrev pub IsMove : Operand → Operand → Size → Type 0
 IsMove (Sreg seg) b size = (is_popped (Sreg seg) ≡ true) × (size ≢ B1) × (is_place b ≡ true) × IsOf B2 b
-IsMove (Creg n) b size = (size ≡ B4) × (is_gpr b ≡ true) × IsOf B4 b
-IsMove (Dreg n) b size = (size ≡ B4) × (is_gpr b ≡ true) × IsOf B4 b
+IsMove (Creg n) b size = (is_control_number n ≡ true) × (size ≡ B4) × (is_gpr b ≡ true) × IsOf B4 b
+IsMove (Dreg n) b size = (is_debug_number n ≡ true) × (size ≡ B4) × (is_gpr b ≡ true) × IsOf B4 b
 IsMove a (Sreg seg) size = (size ≢ B1) × (is_place a ≡ true) × IsOf B2 a
-IsMove a (Creg n) size = (size ≡ B4) × (is_gpr a ≡ true) × IsOf B4 a
-IsMove a (Dreg n) size = (size ≡ B4) × (is_gpr a ≡ true) × IsOf B4 a
+IsMove a (Creg n) size = (is_control_number n ≡ true) × (size ≡ B4) × (is_gpr a ≡ true) × IsOf B4 a
+IsMove a (Dreg n) size = (is_debug_number n ≡ true) × (size ≡ B4) × (is_gpr a ≡ true) × IsOf B4 a
 IsMove a b size = IsPart RegMem size a × IsPart Value size b × ((is_plain a || is_plain b) ≡ true)
 
 abbrev pub IsShape : Shape → Insn → Type 0

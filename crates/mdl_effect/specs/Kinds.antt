@@ -1,5 +1,5 @@
 -- What an operand is, by kind. Manual, chapter 17.
-use Rattle.std.specs.Prelude.{◌≡◌, ◌<◌, ◌==◌, ◌^◌, Bool, true, false, ⊤}
+use Rattle.std.specs.Prelude.{ℕ, ◌≡◌, ◌<◌, ◌==◌, ◌&&◌, ◌||◌, ◌^◌, nat_lt, not, Bool, true, false, ⊤}
 use Rattle.mdl_state.specs.declared.Size.{Size}
 use Rattle.mdl_state.specs.declared.Size.TheVariants.{B1, B2}
 use Rattle.mdl_state.specs.Bytes.{bound_of}
@@ -79,3 +79,11 @@ abbrev pub IsPort : Operand → Type 0
 IsPort (Gpr n own) = (own ≡ B2) × (n ≡ 2)
 IsPort (Imm value own) = (own ≡ B1) × (value < 2 ^ 8)
 IsPort _ = ⊥
+
+-- CR0, CR2 and CR3
+abbrev pub is_control_number : ℕ → Bool
+is_control_number n = (n == 0) || (n == 2) || (n == 3)
+
+-- DR0 to DR3, DR6 and DR7
+abbrev pub is_debug_number : ℕ → Bool
+is_debug_number n = nat_lt n 8 && not (n == 4) && not (n == 5)

@@ -9,6 +9,12 @@ pub mod StackEffects
 pub mod Jumps
 pub mod FlagEffects
 pub mod FlowEffects
+pub mod FlagImages
+pub mod InterruptEffects
+pub mod PortEffects
+pub mod TableEffects
+pub mod ControlEffects
+pub mod SystemEffects
 pub mod StringEffects
 pub mod FarEffects
 pub mod Kinds
