@@ -11,11 +11,13 @@ use Rattle.mdl_effect.specs.Operands.{After}
 use Rattle.mdl_effect.specs.DataEffects.{runs_data, data_effect}
 use Rattle.mdl_effect.specs.FlowEffects.{runs_flow, flow_effect}
 use Rattle.mdl_effect.specs.StringEffects.{runs_string, string_plan}
+use Rattle.mdl_effect.specs.FarEffects.{runs_far, far_effect}
 use Rattle.mdl_effect.specs.Ways.{IsDefined, Leaves, IsComplete}
 use Rattle.mdl_effect.proofs.FormLaws.{spelt_formed}
 use Rattle.mdl_effect.proofs.DataWays.{data_complete}
 use Rattle.mdl_effect.proofs.FlowWays.{flow_complete}
 use Rattle.mdl_effect.proofs.StringWays.{string_complete}
+use Rattle.mdl_effect.proofs.FarWays.{far_complete}
 
 -- ---- what some bytes spell comes to no missing row
 
@@ -27,6 +29,9 @@ flow_spelt bytes big insn r back h e = flow_complete insn r back (spelt_formed b
 
 pub string_spelt : (bytes : List ℕ) (big : Bool) (insn : Insn) (r : Regs) (free : ℕ) → Spelt bytes big insn → runs_string insn.op ≡ true → IsComplete r (string_plan insn r free)
 string_spelt bytes big insn r free h e = string_complete insn r free e
+
+pub far_spelt : (bytes : List ℕ) (big : Bool) (insn : Insn) (r : Regs) (back : ℕ) → Spelt bytes big insn → runs_far insn ≡ true → IsComplete r (far_effect insn r back)
+far_spelt bytes big insn r back h e = far_complete insn r back (spelt_formed bytes big insn h) e
 
 -- ---- attempts
 

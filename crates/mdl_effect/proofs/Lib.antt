@@ -6,4 +6,5 @@ pub mod LoadWays
 pub mod DataWays
 pub mod FlowWays
 pub mod StringWays
+pub mod FarWays
 pub mod Attempts

@@ -7,6 +7,7 @@ ghost use Rattle.mdl_insn.specs.declared.instruction.Insn.{Insn};
 ghost use Rattle.mdl_effect.specs.DataEffects.{runs_data, data_effect};
 ghost use Rattle.mdl_effect.specs.FlowEffects.{runs_flow, flow_effect};
 ghost use Rattle.mdl_effect.specs.StringEffects.{runs_string, string_plan};
+ghost use Rattle.mdl_effect.specs.FarEffects.{runs_far, far_effect};
 ghost use Rattle.mdl_effect.specs.Forms.{IsFormed};
 ghost use Rattle.mdl_effect.specs.Ways.{IsComplete};
 
@@ -25,4 +26,6 @@ pub fn instructions_come_to_no_missing_row()
         → Spelt bytes big insn → IsTrue (runs_flow insn) → IsComplete r (flow_effect insn r back) }
     ensures of_string { (bytes : List ℕ) (big : Bool) (insn : Insn) (r : Regs) (free : ℕ)
         → Spelt bytes big insn → IsTrue (runs_string insn.op) → IsComplete r (string_plan insn r free) }
+    ensures of_far { (bytes : List ℕ) (big : Bool) (insn : Insn) (r : Regs) (back : ℕ)
+        → Spelt bytes big insn → IsTrue (runs_far insn) → IsComplete r (far_effect insn r back) }
 {}
