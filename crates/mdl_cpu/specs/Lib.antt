@@ -11,3 +11,7 @@ pub mod Visibility
 pub mod Transfers
 pub mod Returns
 pub mod Breakpoints
+pub mod Causes
+pub mod Gates
+pub mod DoubleFault
+pub mod Delivery

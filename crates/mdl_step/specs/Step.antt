@@ -19,6 +19,7 @@ use Rattle.mdl_cpu.specs.Segments.{has_protection}
 use Rattle.mdl_cpu.specs.SystemFlags.{TF, RF}
 use Rattle.mdl_cpu.specs.Breakpoints.{data_breakpoints}
 use Rattle.mdl_cpu.specs.declared.Cause.{Cause}
+use Rattle.mdl_cpu.specs.Causes.{fault_cause, event_cause, soft_cause, with_address}
 use Rattle.mdl_insn.specs.declared.instruction.Insn.{Insn}
 use Rattle.mdl_insn.specs.declared.mnemonics.Op.{Op}
 use Rattle.mdl_insn.specs.declared.mnemonics.Op.TheVariants as ops
@@ -27,7 +28,7 @@ use Rattle.mdl_effect.specs.Ports.{Accesses}
 use Rattle.mdl_step.specs.Effects.{effect}
 use Rattle.mdl_step.specs.Fetching.{Code, Instruction, Refused, Fetches}
 use Rattle.mdl_step.specs.Boundary.{Boundary, Idle, Trap, Break, Nmi, Line, Execute, boundary}
-use Rattle.mdl_step.specs.Delivering.{fault_cause, event_cause, soft_cause, with_address, with_debug_bits, BT, delivered}
+use Rattle.mdl_step.specs.Delivering.{with_debug_bits, BT, delivered}
 use Rattle.mdl_step.specs.Events.{after_reset}
 
 -- the registers are those of real mode, and nothing is debugged. Own: Steps that are not built.
