@@ -1,4 +1,3 @@
-pub mod FarEffects
 pub mod Effects
 pub mod Fetching
 pub mod Boundary

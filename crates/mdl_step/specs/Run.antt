@@ -38,7 +38,7 @@ module _ {B : Type 0} (rules : Rules B) (on_board : EventKind → B → B) (even
     pub last : Machine B
     pub before : length choices < steps
     pub run : Run policy m choices last
-    pub unbuilt : IsUnbuilt rules policy last
+    pub unbuilt : IsUnbuilt rules last
 
 -- ---- walks
 

@@ -1,5 +1,6 @@
 -- One step of the machine over any board. Manual, chapters 9, 10 and 12.
-use Rattle.std.specs.Prelude.{◌≡◌, ◌⊎◌, ⊤, ℕ, ◌+◌, ◌%◌, ◌^◌, ◌==◌, ◌&&◌, not, Bool, true, false, if◌then◌else◌, [], IsTrue, bit_or}
+use Rattle.std.specs.Prelude.{◌≡◌, ℕ, ◌+◌, ◌%◌, ◌^◌, ◌==◌, ◌&&◌, not, Bool, true, false, if◌then◌else◌, [], IsTrue, bit_or}
+use Rattle.std.specs.FinMap.{empty}
 use Rattle.mdl_state.specs.declared.Regs.{Regs}
 use Rattle.mdl_state.specs.declared.Fault.{Fault}
 use Rattle.mdl_state.specs.declared.Latches.{Latches}
@@ -17,10 +18,13 @@ use Rattle.mdl_state.specs.Attempt.{attempt}
 use Rattle.mdl_num.specs.Flags.{with_bit}
 use Rattle.mdl_cpu.specs.Segments.{has_protection}
 use Rattle.mdl_cpu.specs.SystemFlags.{TF, RF}
+use Rattle.mdl_cpu.specs.Steady.{has_paging}
 use Rattle.mdl_cpu.specs.Breakpoints.{data_breakpoints}
 use Rattle.mdl_cpu.specs.declared.Cause.{Cause}
 use Rattle.mdl_cpu.specs.Causes.{fault_cause, event_cause, soft_cause, with_address}
 use Rattle.mdl_insn.specs.declared.instruction.Insn.{Insn}
+use Rattle.mdl_insn.specs.declared.instruction.Operand.{Operand}
+use Rattle.mdl_insn.specs.declared.instruction.Operand.TheVariants.{Creg}
 use Rattle.mdl_insn.specs.declared.mnemonics.Op.{Op}
 use Rattle.mdl_insn.specs.declared.mnemonics.Op.TheVariants as ops
 use Rattle.mdl_effect.specs.Operands.{After}
@@ -122,6 +126,19 @@ abbrev pub faulted : Serve → Core → Fault → Mem → Outcome Core × Mem
 faulted serve core fault m = delivered serve (fault_cause core.regs fault)
     (record core { regs = with_address core.regs fault; latches = record core.latches { hold = 0 } }) m
 
+-- Memory as a control register says that was loaded: by CR0 paging is on or off, and the cached entries stay; by CR3
+-- other tables are in place, and nothing is cached.
+abbrev pub with_control : ℕ → Regs → Mem → Mem
+with_control number r m =
+    if number == 0 then record m { paging = has_paging r }
+    else if number == 3 then record m { cr3 = r.cr3; cache = empty }
+    else m
+
+-- Memory behind an instruction that left these registers: a MOV to a control register loads that. LMSW leaves PG.
+abbrev pub remapped : Op → Operand → Regs → Mem → Mem
+remapped ops.Mov (Creg number) r m = with_control number r m
+remapped _ _ r m = m
+
 -- ---- an instruction
 
 -- an attempt at it, with the data breakpoints looked for
@@ -131,7 +148,7 @@ attempted serve core insn back given free m = attempt serve given (effect insn c
 -- what the processor comes to
 abbrev pub executed : Serve → Core → Insn → ℕ → ℕ → ℕ → Mem → Outcome Core × Mem
 executed serve core insn back given free m = handled (attempted serve core insn back given free m)
-    (λ after n. passed_by after.next serve core insn after back n.hits (unwatched n)) (λ fault n. faulted serve core fault (unwatched n))
+    (λ after n. passed_by after.next serve core insn after back n.hits (remapped insn.op insn.a after.regs (unwatched n))) (λ fault n. faulted serve core fault (unwatched n))
 
 -- an instruction that faults leaves the board
 abbrev pub MovesBoard : {B : Type 0} → Rules B → Outcome After → ℕ → B → B → Type 0
@@ -160,6 +177,7 @@ pub record Executes {B : Type 0} (rules : Rules B) (policy : Policy) (m : Machin
 
 -- a cause is delivered to this processor, by these items in order and wholly
 pub record Delivers {B : Type 0} (policy : Policy) (cause : Cause) (core : Core) (m : Machine B) (choice : Choice) (n : Machine B) : Type 0 where
+  pub covered : IsTrue (is_covered m.state.core.regs)
   pub comes : delivered (by_list policy) cause core (with_items m.state.mem choice.served) ≡ (Passed n.state.core, n.state.mem)
   pub wholly : n.state.mem.served ≡ []
 
@@ -220,25 +238,11 @@ pub record Step {B : Type 0} (rules : Rules B) (policy : Policy) (m : Machine B)
 
 -- ---- what is not built. Own: Steps that are not built.
 
--- what is fetched has a fault, or it is executed and has one
-abbrev pub HasFault : Serve → Core → Code → Mem → Type 0
-HasFault serve core (Instruction insn count) m = (given : ℕ) × (free : ℕ) × (fault : Fault) × (n : Mem)
-    × (attempted serve core insn (behind core.regs count) given free m ≡ (Failed fault, n))
-HasFault serve core (Refused fault) m = ⊤
+-- something happens, and the registers are not covered
+abbrev pub UnbuiltBy : Boundary → Regs → Type 0
+UnbuiltBy Idle r = ⊥
+UnbuiltBy _ r = is_covered r ≡ false
 
--- for some items the instruction at CS:EIP has a fault, which would be delivered
-pub record ComesToFault (policy : Policy) (s : State) : Type 0 where
-  pub choice : Choice
-  pub code : Code
-  pub mid : Mem
-  pub fetched : Fetches (by_list policy) s.core.regs (with_items s.mem choice.served) code mid
-  pub fault : HasFault (by_list policy) s.core code mid
-
--- the step from here delivers, or is one of registers that are not covered
-abbrev pub UnbuiltBy : {B : Type 0} → Boundary → Policy → Machine B → Type 0
-UnbuiltBy Idle policy m = ⊥
-UnbuiltBy Execute policy m = (is_covered m.state.core.regs ≡ false) ⊎ ComesToFault policy m.state
-UnbuiltBy _ policy m = ⊤
-
-abbrev pub IsUnbuilt : {B : Type 0} → Rules B → Policy → Machine B → Type 0
-IsUnbuilt rules policy m = UnbuiltBy (row_of rules m) policy m
+-- no step from here is built
+abbrev pub IsUnbuilt : {B : Type 0} → Rules B → Machine B → Type 0
+IsUnbuilt rules m = UnbuiltBy (row_of rules m) m.state.core.regs
