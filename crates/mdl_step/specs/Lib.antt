@@ -7,3 +7,4 @@ pub mod Step
 pub mod Run
 pub mod RunLaws
 pub mod Report
+pub mod Computer
