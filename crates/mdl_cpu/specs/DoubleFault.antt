@@ -3,13 +3,9 @@
 use Rattle.std.specs.Prelude.{ℕ, ◌==◌, ◌&&◌, ◌||◌, nat_le, if◌then◌else◌, Option, Some, None}
 use Rattle.mdl_state.specs.declared.Fault.{Fault}
 use Rattle.mdl_cpu.specs.declared.Cause.{Cause}
+use Rattle.mdl_cpu.specs.declared.Class.{Class}
+use Rattle.mdl_cpu.specs.declared.Class.TheVariants.{Benign, Contributory, PageFault, DoubleFault}
 use Rattle.mdl_cpu.specs.Gates.{double_fault}
-
-pub data Class : Type 0 where
-  Benign : Class
-  Contributory : Class
-  PageFault : Class
-  DoubleFault : Class
 
 -- the class of a fault: vectors 0 and 10 to 13 are contributory
 abbrev pub class_of_fault : ℕ → Class

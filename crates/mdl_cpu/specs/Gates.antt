@@ -31,7 +31,7 @@ abbrev pub entry_ip : Regs → ℕ → ℕ
 entry_ip r vector = (r.idt_base + 4 * vector) % 2 ^ 32
 
 abbrev pub entry_cs : Regs → ℕ → ℕ
-entry_cs r vector = (r.idt_base + 4 * vector + 2) % 2 ^ 32
+entry_cs r vector = (r.idt_base + (4 * vector + 2)) % 2 ^ 32
 
 -- The flags of the handler: TF and IF are 0, and behind a software interrupt RF, as behind any instruction.
 -- Own: The flags of a handler in real mode.

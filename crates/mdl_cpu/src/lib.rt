@@ -1,9 +1,10 @@
 //! Addresses and protection as they are written down: the offset of a memory operand, which accesses
-//! a segment allows, the stack, loads of segment registers, and the breakpoints. The plain types here
-//! are those of the rules of protection.
+//! a segment allows, the stack, loads of segment registers, the breakpoints, and the delivery of
+//! interrupts and exceptions. The plain types here are those of the rules of protection.
 //!
-//! The one contract used above is the definitions themselves: `offset_of` and `legal`. Read
-//! `specs/Addresses.antt` first, then `Segments`, `Access`, `Stack`, `Loads`, `Steady`, `Breakpoints`.
+//! The one contract used above is the definitions themselves: `offset_of`, `legal` and `deliver`. Read
+//! `specs/Addresses.antt` first, then `Segments`, `Access`, `Stack`, `Loads`, `Steady`, `Breakpoints`,
+//! `Causes`, `Gates`, `DoubleFault`, `Delivery`.
 #![tactic(auto)]
 
 mod laws;
@@ -46,6 +47,15 @@ pub struct Cause {
     pub ext: bool,
     /// The EIP that is saved.
     pub back: u32,
+}
+
+/// What tells which two exceptions make a double fault.
+#[derive(Clone, Copy, Debug, PartialEq, Eq)]
+pub enum Class {
+    Benign,
+    Contributory,
+    PageFault,
+    DoubleFault,
 }
 
 /// Why a task switch is made.

@@ -1,0 +1,11 @@
+//! The delivery of exceptions and interrupts, in real mode.
+//!
+//! The one contract used above: `deliver` is the written delivery, with those of the faults that arise
+//! on the way, all of it committed. Read `mdl_cpu/specs/Delivery.antt` first, then `DoubleFault.antt`.
+#![tactic(auto)]
+
+mod combining;
+mod deliveries;
+
+pub use deliveries::{Delivered, deliver};
+pub use mdl_cpu::Cause;
