@@ -1,1 +1,4 @@
 pub mod AddressLaws
+pub mod GateLaws
+pub mod ServingLaws
+pub mod DeliveryLaws

@@ -15,3 +15,4 @@ pub mod Causes
 pub mod Gates
 pub mod DoubleFault
 pub mod Delivery
+pub mod Deliveries
