@@ -15,7 +15,7 @@ pub use addresses::{address, cut};
 pub use checks::{check, check_part};
 pub use memory::{load, store};
 pub use segments::{is_big, is_protected, segment, set_segment, who};
-pub use stack::{pop, push, stack_size};
+pub use stack::{above_top, pop, push, set_top, stack_size};
 
 #[cfg(test)]
 mod tests;

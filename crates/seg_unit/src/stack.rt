@@ -42,7 +42,7 @@ fn stack_top(regs: &Regs) -> u32
 }
 
 /// So many bytes above the stack pointer, to which a pop moves it.
-fn above_top(regs: &Regs, bytes: u32) -> u32
+pub fn above_top(regs: &Regs, bytes: u32) -> u32
     ensures top { result ≡ above_top regs.now bytes }
     ensures bound { result < bound_of (stack_size regs.now) }
 {
@@ -61,7 +61,7 @@ fn below_top(regs: &Regs, bytes: u32) -> u32
 
 /// Sets the stack pointer.
 #[tactic(auto, unfolding(mdl_state::specs::Registers::with_reg))]
-fn set_top(regs: &mut Regs, top: u32)
+pub fn set_top(regs: &mut Regs, top: u32)
     requires { top < bound_of (stack_size regs.old) }
     ensures { regs.new ≡ with_top regs.old top }
 {
