@@ -1,0 +1,177 @@
+//! One instruction, by its mnemonic.
+
+ghost use Rattle.std.specs.Prelude.{◌≡◌, ◌≢◌, ◌||◌, ℕ, Bool, List, [], IsTrue, true, false, IfOk, OnErr};
+ghost use Rattle.mdl_insn.specs.Spelling.{Spelt};
+ghost use Rattle.mdl_state.specs.declared.Size.TheVariants.{B1, B2};
+ghost use Rattle.mdl_state.specs.Serving.{by_pick};
+ghost use Rattle.mdl_state.specs.Accesses.{Keeps};
+ghost use Rattle.mdl_state.specs.Attempt.{tried};
+ghost use Rattle.mdl_cpu.specs.Addresses.{HasAddress};
+ghost use Rattle.mdl_cpu.specs.Segments.{has_protection};
+ghost use Rattle.mdl_cpu.specs.Steady.{Steady};
+ghost use Rattle.mdl_cpu.specs.declared.Outcome.TheVariants.{Done};
+ghost use Rattle.mdl_state.specs.declared.Next.TheVariants.{Landed};
+ghost use Rattle.mdl_state.specs.declared.Regs.{Regs as Registers};
+ghost use Rattle.mdl_effect.specs.Operands.{IsOrdinary, is_nothing, value_of};
+ghost use Rattle.mdl_effect.specs.FarEffects.{is_far, runs_far, far_call_plan, far_jump_plan, far_return_plan, iret_plan, far_effect};
+ghost use Rattle.mdl_effect.specs.Kinds.{is_number, is_far_target};
+ghost use Rattle.mdl_effect.specs.Forms.{IsOf, IsFormed};
+ghost use Rattle.operands.specs.Whole.{ran};
+
+use crate::pointers::target;
+use gate_transfer::{Outcome, call_far, interrupt_return, jump_far, return_far};
+use mdl_insn::{Insn, Op, Operand};
+use mdl_state::{Fault, Next, Regs};
+use mem_iface::Linear;
+
+fn is_far(op: Op) -> bool
+    ensures { result ≡ is_far op }
+{
+    match op {
+        Op::Callf | Op::Jmpf | Op::Retf | Op::Iret => true,
+        _ => false,
+    }
+}
+
+/// Whether `run` runs an instruction.
+pub fn runs_far(insn: &Insn) -> bool
+    ensures { result ≡ runs_far insn.now }
+{
+    is_far(insn.op)
+}
+
+/// CALL to a selector and an offset.
+#[tactic(auto, using(mdl_state::specs::Rules::attempts), unfolding(mdl_effect::specs::FarEffects::far_call_plan))]
+fn call<L: Linear>(regs: &mut Regs, lin: &mut L, insn: &Insn, back: u32) -> Result<Next, Fault>
+    requires mode { has_protection regs.old ≡ false }
+    requires size { insn.now.size ≢ B1 }
+    requires target { is_far_target insn.now.a ≡ true }
+    requires address { HasAddress insn.now.a }
+    requires held { (L.seen lin.old).held ≡ [] }
+    ensures run { (ran result regs.new, L.seen lin.new)
+        ≡ tried (by_pick L.pick) 0 (far_call_plan insn.now regs.old back) (L.seen lin.old) }
+    ensures unchanged { OnErr result (regs.new ≡ regs.old) }
+    ensures keeps { Keeps (L.seen lin.old) (L.seen lin.new) }
+{
+    let to = target(regs, lin, insn)?;
+    let outcome = call_far(regs, lin, to.selector, to.offset, insn.size, back)?;
+    Ok(next_of(outcome))
+}
+
+/// What follows a transfer that is made.
+fn next_of(outcome: Outcome) -> Next
+    requires made { outcome ≡ Done }
+    ensures { result ≡ Landed }
+{
+    match outcome {
+        Outcome::Done => Next::Landed,
+        Outcome::Switch(_) => unreachable!(),
+    }
+}
+
+/// JMP to a selector and an offset.
+#[tactic(auto, using(mdl_state::specs::Rules::attempts), unfolding(mdl_effect::specs::FarEffects::far_jump_plan))]
+fn jump<L: Linear>(regs: &mut Regs, lin: &mut L, insn: &Insn) -> Result<Next, Fault>
+    requires mode { has_protection regs.old ≡ false }
+    requires target { is_far_target insn.now.a ≡ true }
+    requires address { HasAddress insn.now.a }
+    ensures run { (ran result regs.new, L.seen lin.new)
+        ≡ tried (by_pick L.pick) 0 (far_jump_plan insn.now regs.old) (L.seen lin.old) }
+    ensures unchanged { OnErr result (regs.new ≡ regs.old) }
+    ensures keeps { Keeps (L.seen lin.old) (L.seen lin.new) }
+{
+    let to = target(regs, lin, insn)?;
+    let outcome = jump_far(regs, lin, to.selector, to.offset, insn.size)?;
+    Ok(next_of(outcome))
+}
+
+/// How many bytes more RETF takes off the stack.
+fn dropped(operand: &Operand) -> u16
+    requires form { IsOf B2 operand.now }
+    requires immediate { (is_number operand.now || is_nothing operand.now) ≡ true }
+    ensures { (r : Registers) → result ≡ value_of r operand.now }
+{
+    match operand {
+        Operand::Imm(bytes, _) => *bytes as u16,
+        _ => 0,
+    }
+}
+
+/// RETF.
+#[tactic(auto, using(mdl_state::specs::Rules::attempts), unfolding(mdl_effect::specs::FarEffects::far_return_plan))]
+fn return_to<L: Linear>(regs: &mut Regs, lin: &mut L, insn: &Insn) -> Result<Next, Fault>
+    requires mode { has_protection regs.old ≡ false }
+    requires form { IsOf B2 insn.now.a }
+    requires immediate { (is_number insn.now.a || is_nothing insn.now.a) ≡ true }
+    ensures run { (ran result regs.new, L.seen lin.new)
+        ≡ tried (by_pick L.pick) 0 (far_return_plan insn.now regs.old) (L.seen lin.old) }
+    ensures unchanged { OnErr result (regs.new ≡ regs.old) }
+    ensures keeps { Keeps (L.seen lin.old) (L.seen lin.new) }
+{
+    return_far(regs, lin, insn.size, dropped(&insn.a))?;
+    Ok(Next::Landed)
+}
+
+/// IRET.
+#[tactic(auto, using(mdl_state::specs::Rules::attempts), unfolding(mdl_effect::specs::FarEffects::iret_plan))]
+fn return_from_interrupt<L: Linear>(
+    regs: &mut Regs,
+    lin: &mut L,
+    insn: &Insn,
+) -> Result<Next, Fault>
+    requires mode { has_protection regs.old ≡ false }
+    ensures run { (ran result regs.new, L.seen lin.new)
+        ≡ tried (by_pick L.pick) 0 (iret_plan insn.now regs.old) (L.seen lin.old) }
+    ensures unchanged { OnErr result (regs.new ≡ regs.old) }
+    ensures keeps { Keeps (L.seen lin.old) (L.seen lin.new) }
+{
+    let outcome = interrupt_return(regs, lin, insn.size)?;
+    Ok(next_of(outcome))
+}
+
+/// An instruction whose operands have the form of its mnemonic.
+#[tactic(auto, unfolding(mdl_effect::specs::FarEffects::far_effect))]
+fn run_formed<L: Linear>(
+    regs: &mut Regs,
+    lin: &mut L,
+    insn: &Insn,
+    back: u32,
+) -> Result<Next, Fault>
+    requires runs { runs_far insn.now ≡ true }
+    requires formed { IsFormed insn.now }
+    requires address { HasAddress insn.now.a }
+    requires mode { has_protection regs.old ≡ false }
+    requires held { (L.seen lin.old).held ≡ [] }
+    ensures run { (ran result regs.new, L.seen lin.new)
+        ≡ tried (by_pick L.pick) 0 (far_effect insn.now regs.old back) (L.seen lin.old) }
+    ensures unchanged { OnErr result (regs.new ≡ regs.old) }
+    ensures keeps { Keeps (L.seen lin.old) (L.seen lin.new) }
+{
+    match insn.op {
+        Op::Callf => call(regs, lin, insn, back),
+        Op::Jmpf => jump(regs, lin, insn),
+        Op::Retf => return_to(regs, lin, insn),
+        Op::Iret => return_from_interrupt(regs, lin, insn),
+        _ => unreachable!(),
+    }
+}
+
+/// One of these instructions that some bytes spell, in an attempt in real mode: its registers and
+/// held writes, or its first fault. `back` is the EIP behind it.
+///
+/// EFLAGS has its status flags. A fault leaves what was held before it to be dropped. CALL may hold
+/// eight bytes.
+pub fn run<L: Linear>(regs: &mut Regs, lin: &mut L, insn: &Insn, back: u32) -> Result<Next, Fault>
+    requires spelt { (bytes : List ℕ) × (big : Bool) × Spelt bytes big insn.now }
+    requires runs { IsTrue (runs_far insn.now) }
+    requires mode { has_protection regs.old ≡ false }
+    requires held { (L.seen lin.old).held ≡ [] }
+    ensures run { (ran result regs.new, L.seen lin.new)
+        ≡ tried (by_pick L.pick) 0 (far_effect insn.now regs.old back) (L.seen lin.old) }
+    ensures unchanged { OnErr result (regs.new ≡ regs.old) }
+    ensures keeps { Keeps (L.seen lin.old) (L.seen lin.new) }
+    ensures steady { Steady regs.old regs.new }
+    ensures ordinary { IfOk result (λ next. IsOrdinary next) }
+{
+    run_formed(regs, lin, insn, back)
+}
