@@ -87,13 +87,13 @@ pub fn interrupt_return<L: Linear>(
     ensures keeps { Keeps (L.seen lin.old) (L.seen lin.new) }
     ensures held { (L.seen lin.new).held ≡ (L.seen lin.old).held }
 {
-    let mut next = *regs;
-    let eip = pop(&mut next, lin, size)?;
-    let sel = (pop(&mut next, lin, size)? % 0x1_0000) as u16;
-    let image = pop(&mut next, lin, size)?;
-    set_code(&mut next, sel, eip)?;
+    let mut popped = *regs;
+    let eip = pop(&mut popped, lin, size)?;
+    let sel = (pop(&mut popped, lin, size)? % 0x1_0000) as u16;
+    let image = pop(&mut popped, lin, size)?;
+    set_code(&mut popped, sel, eip)?;
     let taken = returned_flags(regs, size);
-    next.eflags = image & taken | regs.eflags & !taken;
-    *regs = next;
+    popped.eflags = image & taken | regs.eflags & !taken;
+    *regs = popped;
     Ok(Outcome::Done)
 }
