@@ -1,5 +1,5 @@
 -- What an attempt at an instruction leaves, where it passes.
-use Rattle.std.proofs.Common.{◌≡◌, ℕ, Bool, true, List, sym, subst}
+use Rattle.std.proofs.Common.{◌≡◌, ℕ, Bool, true, false, List, sym, subst}
 use Rattle.mdl_state.specs.declared.Regs.{Regs}
 use Rattle.mdl_state.specs.State.{Mem}
 use Rattle.mdl_state.specs.Serving.{Outcome, Passed, Serve}
@@ -12,12 +12,14 @@ use Rattle.mdl_effect.specs.DataEffects.{runs_data, data_effect}
 use Rattle.mdl_effect.specs.FlowEffects.{runs_flow, flow_effect}
 use Rattle.mdl_effect.specs.StringEffects.{runs_string, string_plan}
 use Rattle.mdl_effect.specs.FarEffects.{runs_far, far_effect}
-use Rattle.mdl_effect.specs.Ways.{IsDefined, Leaves, IsComplete}
+use Rattle.mdl_effect.specs.SystemEffects.{is_protected_only, runs_system, system_effect}
+use Rattle.mdl_effect.specs.Ways.{IsDefined, Leaves, IsComplete, IsSystemComplete}
 use Rattle.mdl_effect.proofs.FormLaws.{spelt_formed}
 use Rattle.mdl_effect.proofs.DataWays.{data_complete}
 use Rattle.mdl_effect.proofs.FlowWays.{flow_complete}
 use Rattle.mdl_effect.proofs.StringWays.{string_complete}
 use Rattle.mdl_effect.proofs.FarWays.{far_complete}
+use Rattle.mdl_effect.proofs.SystemWays.{system_complete}
 
 -- ---- what some bytes spell comes to no missing row
 
@@ -32,6 +34,10 @@ string_spelt bytes big insn r free h e = string_complete insn r free e
 
 pub far_spelt : (bytes : List ℕ) (big : Bool) (insn : Insn) (r : Regs) (back : ℕ) → Spelt bytes big insn → runs_far insn ≡ true → IsComplete r (far_effect insn r back)
 far_spelt bytes big insn r back h e = far_complete insn r back (spelt_formed bytes big insn h) e
+
+pub system_spelt : (bytes : List ℕ) (big : Bool) (insn : Insn) (r : Regs) (back : ℕ) → Spelt bytes big insn → runs_system insn ≡ true → is_protected_only insn.op ≡ false
+    → IsSystemComplete r (system_effect insn r back)
+system_spelt bytes big insn r back h e only = system_complete insn r back (spelt_formed bytes big insn h) e only
 
 -- ---- attempts
 

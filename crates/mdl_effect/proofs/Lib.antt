@@ -7,4 +7,5 @@ pub mod DataWays
 pub mod FlowWays
 pub mod StringWays
 pub mod FarWays
+pub mod SystemWays
 pub mod Attempts

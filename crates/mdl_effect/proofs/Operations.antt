@@ -153,7 +153,7 @@ maybe_number_read (Imm value size) e = refl
 maybe_number_read Nothing e = refl
 maybe_number_read _ e = absurd cc
 
-pub reads : {o : Regs} (r : Regs) (a : Operand) (k : ℕ → Plan After) → is_read a ≡ true → ((value : ℕ) → Ways (Leaves o) (k value)) → Ways (Leaves o) (reading r a k)
+pub reads : {P : After → Type 0} (r : Regs) (a : Operand) (k : ℕ → Plan After) → is_read a ≡ true → ((value : ℕ) → Ways P (k value)) → Ways P (reading r a k)
 unfolding memory_read
 reads r Nothing k e h = h _
 reads r (Gpr n size) k e h = h _

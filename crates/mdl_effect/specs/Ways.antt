@@ -1,10 +1,12 @@
 -- What the ways through the plan of an instruction have in common.
-use Rattle.std.specs.Prelude.{◌≢◌}
+use Rattle.std.specs.Prelude.{◌≡◌, ◌≢◌, ⊤}
 use Rattle.mdl_state.specs.declared.Regs.{Regs}
 use Rattle.mdl_state.specs.declared.Fault.{Fault}
+use Rattle.mdl_state.specs.declared.Next.{Next}
+use Rattle.mdl_state.specs.declared.Next.TheVariants.{Soft, Task}
 use Rattle.mdl_state.specs.Attempt.{Plan}
 use Rattle.mdl_state.specs.Ends.{Ends}
-use Rattle.mdl_cpu.specs.Steady.{Steady}
+use Rattle.mdl_cpu.specs.Steady.{IsSound, Steady}
 use Rattle.mdl_effect.specs.Operands.{After, IsOrdinary}
 
 -- the fault is not that of an instruction that is not defined
@@ -19,3 +21,17 @@ Leaves r after = Steady r after.regs × IsOrdinary after.next
 -- way comes to the row that stands where no instruction has such an operand.
 abbrev pub IsComplete : Regs → Plan After → Type 0
 IsComplete r plan = Ends (Leaves r) IsDefined plan
+
+-- a software interrupt finds the registers as they were, and no task switch follows
+abbrev pub LeavesTo : Next → Regs → Regs → Type 0
+LeavesTo (Soft vector) old new = new ≡ old
+LeavesTo (Task trap) old new = ⊥
+LeavesTo _ old new = ⊤
+
+-- the instruction may change the mode, but leaves registers that are sound
+abbrev pub LeavesSound : Regs → After → Type 0
+LeavesSound r after = (IsSound r → IsSound after.regs) × LeavesTo after.next r after.regs
+
+-- The same of an instruction that may change the mode.
+abbrev pub IsSystemComplete : Regs → Plan After → Type 0
+IsSystemComplete r plan = Ends (LeavesSound r) IsDefined plan

@@ -1,0 +1,312 @@
+-- Each way through the plan of an instruction of the system.
+use Rattle.std.proofs.Common.{◌≡◌, ℕ, ◌==◌, ◌&&◌, Bool, true, false, cond, [], ◌∷◌, ◌++◌, refl, sym, ap, ◌∙◌, arith}
+use Rattle.std.specs.Prelude.{◌||◌, not, if◌then◌else◌, slice_set, bit_and}
+use Rattle.std.specs.Int.{bit_at}
+use Rattle.std.proofs.lemmas.Nat.Bits.{bit_at-lt}
+use Rattle.std.proofs.lemmas.Bool.Decides.{nat_tests}
+use Rattle.mdl_state.specs.declared.Size.{Size}
+use Rattle.mdl_state.specs.declared.Fault.{Fault}
+use Rattle.mdl_state.specs.declared.Next.{Next}
+use Rattle.mdl_state.specs.declared.Next.TheVariants.{Soft, Task}
+use Rattle.mdl_state.specs.declared.Regs.{Regs}
+use Rattle.mdl_state.specs.Bytes.{bit}
+use Rattle.mdl_state.specs.Attempt.{Plan, Done, Fail, Load, Store, Translate, Get, Hold, Input, then_plan}
+use Rattle.mdl_state.specs.Ends.{Ends}
+use Rattle.mdl_num.specs.Flags.{is_set, with_bit}
+use Rattle.mdl_num.specs.declared.status.TheConstants.{OF}
+use Rattle.mdl_num.proofs.Places.{bit_at-with_bit}
+use Rattle.mdl_insn.specs.declared.instruction.Insn.{Insn}
+use Rattle.mdl_insn.specs.declared.instruction.Operand.{Operand}
+use Rattle.mdl_insn.specs.declared.instruction.Operand.TheVariants.{Gpr, Creg, Dreg, At}
+use Rattle.mdl_insn.specs.declared.mnemonics.Op.{Op}
+use Rattle.mdl_insn.specs.declared.mnemonics.Op.TheVariants as ops
+use Rattle.mdl_cpu.specs.Steady.{IsSound, Steady, steady_sound}
+use Rattle.mdl_effect.specs.Operands.{After, IsOrdinary, follow, is_plain, memory_write, value_of}
+use Rattle.mdl_effect.specs.Kinds.{is_memory, is_place}
+use Rattle.mdl_effect.specs.DataEffects.{is_special}
+use Rattle.mdl_effect.specs.Moves.{with_sized}
+use Rattle.mdl_effect.specs.FlagImages.{with_bits_of}
+use Rattle.mdl_effect.specs.InterruptEffects.{privileged, with_io_rights, interrupt_plan, overflow_plan, push_flags_plan, pop_flags_plan, clear_interrupts_plan, set_interrupts_plan, halt_plan}
+use Rattle.mdl_effect.specs.PortEffects.{in_plan, out_plan}
+use Rattle.mdl_effect.specs.TableEffects.{reading_table, writing_table, load_gdt_plan, load_idt_plan, store_gdt_plan, store_idt_plan}
+use Rattle.mdl_effect.specs.ControlEffects.{PE, MP, EM, TS, PG, with_control_register, set_control_plan, with_debug_register, special_move_of, special_move_plan, store_status_word_plan, with_status_word, load_status_word_plan, clear_task_switched_plan, wait_plan, escape_plan}
+use Rattle.mdl_effect.specs.SystemEffects.{is_system, is_protected_only, is_mov, is_special_move, runs_system, system_by, system_effect}
+use Rattle.mdl_effect.specs.Forms.{IsFormedAs, IsFormed}
+use Rattle.mdl_effect.specs.Ways.{IsDefined, Leaves, LeavesTo, LeavesSound, IsSystemComplete}
+use Rattle.mdl_effect.proofs.Registers.{stays, then_stays, reg_stays, value_stays, sized_stays, same_bit, image_stays, interrupts_stay}
+use Rattle.mdl_effect.proofs.Operations.{follows, Ways, passes, fails, either_way, load_then, store_then, push_then, pop_then, place_read, reads}
+
+-- ---- what leaves the mode leaves the registers sound
+
+weaker : {A : Type 0} (P R : A → Type 0) (Q : Fault → Type 0) (plan : Plan A) → ((x : A) → P x → R x) → Ends P Q plan → Ends R Q plan
+weaker P R Q (Done x) f h = f x h
+weaker P R Q (Fail fault) f h = h
+weaker P R Q (Load lin size who k) f h = λ value. weaker P R Q (k value) f (h value)
+weaker P R Q (Store lin size value who k) f h = weaker P R Q k f h
+weaker P R Q (Translate lin size access k) f h = λ place. weaker P R Q (k place) f (h place)
+weaker P R Q (Get place size k) f h = λ value. weaker P R Q (k value) f (h value)
+weaker P R Q (Hold place size value k) f h = weaker P R Q k f h
+weaker P R Q (Input port size k) f h = λ value. weaker P R Q (k value) f (h value)
+
+ordinary : (next : Next) (old new : Regs) → IsOrdinary next → LeavesTo next old new
+ordinary (Soft vector) old new h = absurd h
+ordinary (Task trap) old new h = absurd h
+ordinary _ old new h = tt
+
+-- an instruction that leaves the mode
+steadily : {r : Regs} {plan : Plan After} → Ways (Leaves r) plan → Ways (LeavesSound r) plan
+steadily {r} {plan} h = record { ends = weaker (Leaves r) (LeavesSound r) IsDefined plan (λ after l. (steady_sound r after.regs l.0, ordinary after.next r after.regs l.1)) h.ends }
+
+-- ---- checks
+
+-- one of two plans, by a test
+if_true : {P : After → Type 0} (c : Bool) {p q : Plan After} → (c ≡ true → Ways P p) → Ways P q → Ways P (if c then p else q)
+if_true true h k = h refl
+if_true false h k = k
+
+if_false : {P : After → Type 0} (c : Bool) {p q : Plan After} → Ways P p → (c ≡ false → Ways P q) → Ways P (if c then p else q)
+if_false true h k = h
+if_false false h k = k refl
+
+level_0 : (n : ℕ) → (n == 0) ≡ true → n ≡ 0
+level_0 n e = grind (arith, nat_tests)
+
+at_level_0 : {P : After → Type 0} (r : Regs) {plan : Plan After} → (r.cpl ≡ 0 → Ways P plan) → Ways P (privileged r plan)
+at_level_0 r h = if_true (r.cpl == 0) (λ e. h (level_0 r.cpl e)) (fails (omega arith))
+
+by_io_rights : {P : After → Type 0} (r : Regs) {plan : Plan After} → Ways P plan → Ways P (with_io_rights r plan)
+by_io_rights r h = either_way _ h (fails (omega arith))
+
+-- ---- interrupts and flags
+
+interrupt_way : (vector : ℕ) (r : Regs) → Ways (LeavesSound r) (interrupt_plan vector r)
+unfolding interrupt_plan
+interrupt_way vector r = passes (λ sound. sound, refl)
+
+overflow_way : (r : Regs) → Ways (LeavesSound r) (overflow_plan r)
+unfolding overflow_plan
+overflow_way r = either_way (is_set r.eflags OF) (interrupt_way 4 r) (steadily (follows (stays r)))
+
+push_flags_way : (insn : Insn) (r : Regs) → Ways (Leaves r) (push_flags_plan insn r)
+unfolding push_flags_plan
+push_flags_way insn r = push_then r r _ _ _ (stays r) (λ _ h. follows h)
+
+pop_flags_way : (insn : Insn) (r : Regs) → Ways (Leaves r) (pop_flags_plan insn r)
+unfolding pop_flags_plan
+pop_flags_way insn r = pop_then r r _ _ (stays r) (λ popped h. follows (then_stays h (image_stays popped.1 popped.0)))
+
+clear_interrupts_way : (r : Regs) → Ways (Leaves r) (clear_interrupts_plan r)
+unfolding clear_interrupts_plan
+clear_interrupts_way r = by_io_rights r (follows (interrupts_stay r false))
+
+set_interrupts_way : (r : Regs) → Ways (Leaves r) (set_interrupts_plan r)
+unfolding set_interrupts_plan
+set_interrupts_way r = by_io_rights r (passes (interrupts_stay r true, tt))
+
+halt_way : (r : Regs) → Ways (Leaves r) (halt_plan r)
+unfolding halt_plan
+halt_way r = at_level_0 r (λ _. passes (stays r, tt))
+
+-- ---- ports
+
+in_way : (insn : Insn) (r : Regs) → Ways (Leaves r) (in_plan insn r)
+unfolding in_plan
+in_way insn r = record { ends = λ value. (reg_stays r 0 insn.size value, tt) }
+
+out_way : (insn : Insn) (r : Regs) → Ways (Leaves r) (out_plan insn r)
+unfolding out_plan
+out_way insn r = passes (stays r, tt)
+
+-- ---- the registers of the descriptor tables
+
+reads_table : {P : After → Type 0} (r : Regs) (a : Operand) (k : ℕ → ℕ → Plan After) → is_memory a ≡ true → ((limit base : ℕ) → Ways P (k limit base)) → Ways P (reading_table r a k)
+reads_table r (At mem size) k e h = load_then _ _ _ _ _ (λ limit. load_then _ _ _ _ _ (λ base. h limit base))
+reads_table r _ k e h = absurd cc
+
+writes_table : (r : Regs) (a : Operand) (limit base : ℕ) → is_memory a ≡ true → Ways (Leaves r) (writing_table r a limit base)
+writes_table r (At mem size) limit base e = store_then _ _ _ _ _ _ (λ _. store_then _ _ _ _ _ _ (λ _. follows (stays r)))
+writes_table r _ limit base e = absurd cc
+
+gdt_stays : (r : Regs) (limit base : ℕ) → Steady r (record r { gdt_limit = limit; gdt_base = base })
+gdt_stays r limit base = record { cr0 = refl; cr3 = refl; cpl = refl; virtual = refl; flags = λ h. h }
+
+idt_stays : (r : Regs) (limit base : ℕ) → Steady r (record r { idt_limit = limit; idt_base = base })
+idt_stays r limit base = record { cr0 = refl; cr3 = refl; cpl = refl; virtual = refl; flags = λ h. h }
+
+module _ (insn : Insn) (r : Regs) (a : is_memory insn.a ≡ true) where
+  load_gdt_way : Ways (Leaves r) (load_gdt_plan insn r)
+  unfolding load_gdt_plan
+  load_gdt_way = at_level_0 r (λ _. reads_table r insn.a _ a (λ limit base. follows (gdt_stays r limit _)))
+
+  load_idt_way : Ways (Leaves r) (load_idt_plan insn r)
+  unfolding load_idt_plan
+  load_idt_way = at_level_0 r (λ _. reads_table r insn.a _ a (λ limit base. follows (idt_stays r limit _)))
+
+  store_gdt_way : Ways (Leaves r) (store_gdt_plan insn r)
+  unfolding store_gdt_plan
+  store_gdt_way = writes_table r insn.a _ _ a
+
+  store_idt_way : Ways (Leaves r) (store_idt_plan insn r)
+  unfolding store_idt_plan
+  store_idt_way = writes_table r insn.a _ _ a
+
+-- ---- control and debug registers
+
+-- another CR0 at level 0, with paging only where there is protection
+sound_control : (r : Regs) (c : ℕ) → r.cpl ≡ 0 → (IsSound r → bit c 31 ≡ true → bit c 0 ≡ true) → IsSound r → IsSound (record r { cr0 = c })
+sound_control r c zero paged sound = record {
+  real = λ _. zero;
+  virtual_level = sound.virtual_level;
+  virtual_mode = λ v. absurd (omega (arith, zero, sound.virtual_level v));
+  paged_mode = paged sound;
+  level = sound.level;
+  flags = sound.flags;
+}
+
+cr2_stays : (r : Regs) (value : ℕ) → Steady r (record r { cr2 = value })
+cr2_stays r value = record { cr0 = refl; cr3 = refl; cpl = refl; virtual = refl; flags = λ h. h }
+
+sound_tables : (r : Regs) (value : ℕ) → IsSound r → IsSound (record r { cr3 = value })
+sound_tables r value sound = record {
+  real = sound.real;
+  virtual_level = sound.virtual_level;
+  virtual_mode = sound.virtual_mode;
+  paged_mode = sound.paged_mode;
+  level = sound.level;
+  flags = sound.flags;
+}
+
+-- the bits that a number has where CR0 takes them from it
+taken_bit : (n from k : ℕ) → bit (with_bit n k (bit_at from k)) k ≡ bit from k
+taken_bit n from k = ap (λ v. v == 1) (bit_at-with_bit n k (bit_at from k) (bit_at-lt from k))
+
+other_bit : (n from k j : ℕ) → (j == k) ≡ false → bit (with_bit n k (bit_at from k)) j ≡ bit n j
+other_bit n from k j e = same_bit n k (bit_at from k) j (bit_at-lt from k) (grind (arith, nat_tests))
+
+moved_protection : (value : ℕ) → bit (with_bits_of value 0 (PE ∷ MP ∷ EM ∷ TS ∷ PG ∷ [])) 0 ≡ bit value 0
+moved_protection value = other_bit _ value PG 0 refl ∙ (other_bit _ value TS 0 refl ∙ (other_bit _ value EM 0 refl ∙ (other_bit _ value MP 0 refl ∙ taken_bit 0 value PE)))
+
+moved_paging : (value : ℕ) → bit (with_bits_of value 0 (PE ∷ MP ∷ EM ∷ TS ∷ PG ∷ [])) 31 ≡ bit value 31
+moved_paging value = taken_bit _ value PG
+
+-- paging without protection was refused
+paging_allowed : (n : ℕ) (paging protection : Bool) → (n == 0) ≡ true → (n == 0 && paging && not protection) ≡ false → paging ≡ true → protection ≡ true
+paging_allowed n true true z e p = refl
+paging_allowed n true false z e p = absurd cc
+paging_allowed n false protection z e p = absurd cc
+
+set_control_way : (n value : ℕ) (r : Regs) → r.cpl ≡ 0 → Ways (LeavesSound r) (set_control_plan n value r)
+set_control_way n value r zero = if_false (n == 0 && bit value PG && not (bit value PE)) (fails (omega arith)) (λ e. record { ends = (sounds e, tt) }) where
+  sounds : (n == 0 && bit value PG && not (bit value PE)) ≡ false → IsSound r → IsSound (with_control_register r n value)
+  sounds e = elim (n == 0) as (λ v. (n == 0) ≡ v → IsSound r → IsSound (cond v (record r { cr0 = with_bits_of value 0 (PE ∷ MP ∷ EM ∷ TS ∷ PG ∷ []) }) (cond (n == 2) (record r { cr2 = value }) (record r { cr3 = value })))) [
+    | true ↦ λ z. sound_control r _ zero (λ _ p. moved_protection value ∙ paging_allowed n (bit value 31) (bit value 0) z e (sym (moved_paging value) ∙ p))
+    | false ↦ λ _. elim (n == 2) as (λ v. IsSound r → IsSound (cond v (record r { cr2 = value }) (record r { cr3 = value }))) [
+      | true ↦ steady_sound r _ (cr2_stays r value)
+      | false ↦ sound_tables r value
+    ]
+  ] refl
+
+debug_stays : (r : Regs) (n value : ℕ) → Steady r (with_debug_register r n value)
+debug_stays r n value = elim (n == 6) as (λ v. Steady r (cond v (record r { dr6 = bit_and value 0xE00F }) (cond (n == 7) (record r { dr7 = bit_and value 0xFFFF03FF }) (record r { dr = slice_set r.dr n value })))) [
+  | true ↦ record { cr0 = refl; cr3 = refl; cpl = refl; virtual = refl; flags = λ h. h }
+  | false ↦ elim (n == 7) as (λ v. Steady r (cond v (record r { dr7 = bit_and value 0xFFFF03FF }) (record r { dr = slice_set r.dr n value }))) [
+    | true ↦ record { cr0 = refl; cr3 = refl; cpl = refl; virtual = refl; flags = λ h. h }
+    | false ↦ record { cr0 = refl; cr3 = refl; cpl = refl; virtual = refl; flags = λ h. h }
+  ]
+]
+
+special_way : (a b : Operand) (r : Regs) → (is_special a || is_special b) ≡ true → r.cpl ≡ 0 → Ways (LeavesSound r) (special_move_of a b r)
+special_way (Creg n) b r e zero = set_control_way n (value_of r b) r zero
+special_way (Dreg n) b r e zero = steadily (follows (debug_stays r n _))
+special_way (Gpr m own) (Creg n) r e zero = steadily (follows (value_stays r (Gpr m own) _))
+special_way (Gpr m own) (Dreg n) r e zero = steadily (follows (value_stays r (Gpr m own) _))
+special_way _ (Creg n) r e zero = steadily (follows (stays r))
+special_way _ (Dreg n) r e zero = steadily (follows (stays r))
+special_way _ _ r e zero = absurd cc
+
+special_move_way : (insn : Insn) (r : Regs) → (is_special insn.a || is_special insn.b) ≡ true → Ways (LeavesSound r) (special_move_plan insn r)
+unfolding special_move_plan
+special_move_way insn r e = at_level_0 r (λ zero. special_way insn.a insn.b r e zero)
+
+-- ---- the machine status word and the coprocessor
+
+stores_word : (a : Operand) (size : Size) (word : ℕ) (r : Regs) → is_place a ≡ true
+    → Ways (Leaves r) (if is_plain a then follow (with_sized r a size word) else then_plan (memory_write r a word) (λ _. follow r))
+unfolding memory_write
+stores_word (Gpr n own) size word r e = follows (sized_stays r (Gpr n own) size word)
+stores_word (At mem own) size word r e = store_then _ _ _ _ _ _ (λ _. follows (stays r))
+stores_word _ size word r e = absurd cc
+
+store_status_word_way : (insn : Insn) (r : Regs) → is_place insn.a ≡ true → Ways (Leaves r) (store_status_word_plan insn r)
+unfolding store_status_word_plan
+store_status_word_way insn r a = stores_word insn.a insn.size _ r a
+
+-- protection stays or begins, and paging stays
+loaded_paging : (n word : ℕ) → bit (with_bits_of word n (MP ∷ EM ∷ TS ∷ [])) 31 ≡ bit n 31
+loaded_paging n word = other_bit _ word TS 31 refl ∙ (other_bit _ word EM 31 refl ∙ other_bit n word MP 31 refl)
+
+loaded_protection : (n word : ℕ) → bit (with_bits_of word n (MP ∷ EM ∷ TS ∷ [])) 0 ≡ bit n 0
+loaded_protection n word = other_bit _ word TS 0 refl ∙ (other_bit _ word EM 0 refl ∙ other_bit n word MP 0 refl)
+
+status_word_paging : (r : Regs) (word : ℕ) (c : Bool) → bit word PE ≡ c → IsSound r → bit (with_bits_of word r.cr0 ((if c then PE ∷ [] else []) ++ MP ∷ EM ∷ TS ∷ [])) 31 ≡ true
+    → bit (with_bits_of word r.cr0 ((if c then PE ∷ [] else []) ++ MP ∷ EM ∷ TS ∷ [])) 0 ≡ true
+status_word_paging r word true is sound p = loaded_protection _ word ∙ (taken_bit r.cr0 word PE ∙ is)
+status_word_paging r word false is sound p = loaded_protection r.cr0 word ∙ sound.paged_mode (sym (loaded_paging r.cr0 word) ∙ p)
+
+load_status_word_way : (insn : Insn) (r : Regs) → is_place insn.a ≡ true → Ways (LeavesSound r) (load_status_word_plan insn r)
+unfolding load_status_word_plan
+load_status_word_way insn r a = at_level_0 r (λ zero. reads r insn.a (λ word. follow (with_status_word r word)) (place_read insn.a a) (λ word.
+    record { ends = (sound_control r _ zero (status_word_paging r word (bit word PE) refl), tt) }))
+
+clear_task_switched_way : (r : Regs) → Ways (LeavesSound r) (clear_task_switched_plan r)
+unfolding clear_task_switched_plan
+clear_task_switched_way r = at_level_0 r (λ zero. record {
+  ends = (
+    sound_control r _ zero (λ sound p.
+        same_bit r.cr0 TS 0 0 (omega arith) (omega arith) ∙ sound.paged_mode (sym (same_bit r.cr0 TS 0 31 (omega arith) (omega arith)) ∙ p)),
+    tt,
+  );
+})
+
+wait_way : (r : Regs) → Ways (Leaves r) (wait_plan r)
+unfolding wait_plan
+wait_way r = either_way _ (fails (omega arith)) (follows (stays r))
+
+escape_way : (r : Regs) → Ways (Leaves r) (escape_plan r)
+unfolding escape_plan
+escape_way r = either_way _ (fails (omega arith)) (follows (stays r))
+
+-- ---- by mnemonic
+
+system_way : (op : Op) (insn : Insn) (r : Regs) → IsFormedAs op insn → (is_system op || (is_mov op && (is_special insn.a || is_special insn.b))) ≡ true
+    → Ways (LeavesSound r) (system_by op insn r)
+system_way ops.Int insn r f e = interrupt_way _ r
+system_way ops.Int3 insn r f e = interrupt_way 3 r
+system_way ops.Into insn r f e = overflow_way r
+system_way ops.Pushf insn r f e = steadily (push_flags_way insn r)
+system_way ops.Popf insn r f e = steadily (pop_flags_way insn r)
+system_way ops.Cli insn r f e = steadily (clear_interrupts_way r)
+system_way ops.Sti insn r f e = steadily (set_interrupts_way r)
+system_way ops.Hlt insn r f e = steadily (halt_way r)
+system_way ops.InPort insn r f e = steadily (in_way insn r)
+system_way ops.OutPort insn r f e = steadily (out_way insn r)
+system_way ops.Lgdt insn r f e = steadily (load_gdt_way insn r f.1.0.0)
+system_way ops.Lidt insn r f e = steadily (load_idt_way insn r f.1.0.0)
+system_way ops.Sgdt insn r f e = steadily (store_gdt_way insn r f.1.0.0)
+system_way ops.Sidt insn r f e = steadily (store_idt_way insn r f.1.0.0)
+system_way ops.Smsw insn r f e = steadily (store_status_word_way insn r f.1.0.0)
+system_way ops.Lmsw insn r f e = load_status_word_way insn r f.1.0.0
+system_way ops.Clts insn r f e = clear_task_switched_way r
+system_way ops.Wait insn r f e = steadily (wait_way r)
+system_way ops.Esc insn r f e = steadily (escape_way r)
+system_way ops.Mov insn r f e = special_move_way insn r e
+system_way _ insn r f e = absurd cc
+
+without : (a b c : Bool) → (a || b || c) ≡ true → b ≡ false → (a || c) ≡ true
+without true b c e h = refl
+without false true c e h = absurd cc
+without false false c e h = e
+
+pub system_complete : (insn : Insn) (r : Regs) (back : ℕ) → IsFormed insn → runs_system insn ≡ true → is_protected_only insn.op ≡ false → IsSystemComplete r (system_effect insn r back)
+unfolding system_effect
+system_complete insn r back f e h = (system_way insn.op insn r f (without (is_system insn.op) (is_protected_only insn.op) (is_special_move insn) e h)).ends
