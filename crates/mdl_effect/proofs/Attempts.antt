@@ -1,5 +1,7 @@
 -- What an attempt at an instruction leaves, where it passes.
 use Rattle.std.proofs.Common.{◌≡◌, ℕ, Bool, true, false, List, sym, subst}
+use Rattle.std.specs.Prelude.{⊤}
+use Rattle.mdl_state.specs.declared.Fault.{Fault}
 use Rattle.mdl_state.specs.declared.Regs.{Regs}
 use Rattle.mdl_state.specs.State.{Mem}
 use Rattle.mdl_state.specs.Serving.{Outcome, Passed, Serve}
@@ -13,13 +15,13 @@ use Rattle.mdl_effect.specs.FlowEffects.{runs_flow, flow_effect}
 use Rattle.mdl_effect.specs.StringEffects.{runs_string, string_plan}
 use Rattle.mdl_effect.specs.FarEffects.{runs_far, far_effect}
 use Rattle.mdl_effect.specs.SystemEffects.{is_protected_only, runs_system, system_effect}
-use Rattle.mdl_effect.specs.Ways.{IsDefined, Leaves, IsComplete, IsSystemComplete}
+use Rattle.mdl_effect.specs.Ways.{IsDefined, Leaves, IsComplete, LeavesSound, IsSystemComplete}
 use Rattle.mdl_effect.proofs.FormLaws.{spelt_formed}
 use Rattle.mdl_effect.proofs.DataWays.{data_complete}
 use Rattle.mdl_effect.proofs.FlowWays.{flow_complete}
 use Rattle.mdl_effect.proofs.StringWays.{string_complete}
 use Rattle.mdl_effect.proofs.FarWays.{far_complete}
-use Rattle.mdl_effect.proofs.SystemWays.{system_complete}
+use Rattle.mdl_effect.proofs.SystemWays.{system_complete, system_sound}
 
 -- ---- what some bytes spell comes to no missing row
 
@@ -61,3 +63,8 @@ flow_leaves bytes big insn r back serve given m n answer h e ran = answer_leaves
 pub string_leaves : (bytes : List ℕ) (big : Bool) (insn : Insn) (r : Regs) (free : ℕ) (serve : Serve) (given : ℕ) (m n : Mem) (answer : Outcome After)
     → Spelt bytes big insn → runs_string insn.op ≡ true → (answer, n) ≡ tried serve given (string_plan insn r free) m → IfPassed (Leaves r) answer
 string_leaves bytes big insn r free serve given m n answer h e ran = answer_leaves r serve given (string_plan insn r free) m n answer (string_spelt bytes big insn r free h e) ran
+
+pub system_leaves : (bytes : List ℕ) (big : Bool) (insn : Insn) (r : Regs) (back : ℕ) (serve : Serve) (given : ℕ) (m n : Mem) (answer : Outcome After)
+    → Spelt bytes big insn → runs_system insn ≡ true → (answer, n) ≡ tried serve given (system_effect insn r back) m → IfPassed (LeavesSound r) answer
+system_leaves bytes big insn r back serve given m n answer h e ran = subst (λ (w : Outcome After × Mem). IfPassed (LeavesSound r) w.0) (sym ran)
+    (tried_ends (LeavesSound r) (λ (_ : Fault). ⊤) serve given (system_effect insn r back) m (system_sound insn r back (spelt_formed bytes big insn h) e))

@@ -95,7 +95,7 @@ image_flags image flags e t h = record {
 }
 
 -- EFLAGS from an image leaves the mode
-image_stays : (o q : Regs) (image : ℕ) (size : Size) → Steady o q → Steady o (record q { eflags = with_flags_from image (returned_flags o size) o.eflags })
+pub image_stays : (o q : Regs) (image : ℕ) (size : Size) → Steady o q → Steady o (record q { eflags = with_flags_from image (returned_flags o size) o.eflags })
 image_stays o q image size h = record {
   cr0 = h.cr0;
   cr3 = h.cr3;

@@ -62,7 +62,7 @@ legal_way {A} {P} r seg offset size write k h = test_way P _ _ (segment_fault se
 load_any : (r : Regs) (seg : Seg) (offset : ℕ) (size : Size) → Ways (λ (_ : ℕ). ⊤) (load_from r seg offset size)
 load_any r seg offset size = legal_way r seg offset size false (λ at. Load at size (who_of r) (λ value. Done value)) (λ at. record { ends = λ value. tt })
 
-store_any : (r : Regs) (seg : Seg) (offset : ℕ) (size : Size) (value : ℕ) → Ways (λ (_ : Unit {0}). ⊤) (store_to r seg offset size value)
+pub store_any : (r : Regs) (seg : Seg) (offset : ℕ) (size : Size) (value : ℕ) → Ways (λ (_ : Unit {0}). ⊤) (store_to r seg offset size value)
 store_any r seg offset size value = legal_way r seg offset size true (λ at. Store at size value (who_of r) (Done tt)) (λ at. record { ends = tt })
 
 -- what follows a read, and a write

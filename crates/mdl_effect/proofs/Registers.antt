@@ -1,6 +1,6 @@
 -- What leaves the mode: general registers, segment registers, EIP, and flags that are no part of it.
-use Rattle.std.proofs.Common.{◌≡◌, ◌≢◌, ◌<◌, ℕ, ◌==◌, Bool, true, false, List, [], ◌∷◌, ◌++◌, refl, ap, ◌∙◌, arith}
-use Rattle.std.specs.Prelude.{⊤, nat_lt, if◌then◌else◌}
+use Rattle.std.proofs.Common.{◌≡◌, ◌≢◌, ◌<◌, ℕ, ◌==◌, Bool, true, false, List, refl, ap, ◌∙◌, arith}
+use Rattle.std.specs.Prelude.{nat_lt, if◌then◌else◌}
 use Rattle.std.specs.Int.{bit_at, from_bool}
 use Rattle.std.proofs.lemmas.Nat.Bits.{bit_at-lt}
 use Rattle.mdl_state.specs.declared.Size.{Size}
@@ -22,7 +22,6 @@ use Rattle.mdl_cpu.specs.SystemFlags.{AreFlags}
 use Rattle.mdl_cpu.specs.Steady.{Steady}
 use Rattle.mdl_effect.specs.Operands.{with_value, with_flags}
 use Rattle.mdl_effect.specs.Moves.{with_sized}
-use Rattle.mdl_effect.specs.FlagImages.{with_bits_of, common_flags, interrupt_flag, level_flags, with_image}
 
 pub stays : (r : Regs) → Steady r r
 stays r = record { cr0 = refl; cr3 = refl; cpl = refl; virtual = refl; flags = λ h. h }
@@ -155,46 +154,9 @@ ah_stays r ah = eflags_stay r _
     (bit_keeps _ CF (bit_at ah CF) (bit_at-lt ah CF) is_cf) (bit_keeps _ PF (bit_at ah PF) (bit_at-lt ah PF) is_pf)) (bit_keeps _ AF (bit_at ah AF) (bit_at-lt ah AF) is_af))
     (bit_keeps _ ZF (bit_at ah ZF) (bit_at-lt ah ZF) is_zf)) (bit_keeps _ SF (bit_at ah SF) (bit_at-lt ah SF) is_sf))
 
--- ---- the flags of an image
-
-is_tf : IsFlag 8
-is_tf = record { one = omega arith; three = omega arith; five = omega arith; fifteen = omega arith; virtual = omega arith; below = omega arith }
-
+-- IF by itself
 is_if : IsFlag 9
 is_if = record { one = omega arith; three = omega arith; five = omega arith; fifteen = omega arith; virtual = omega arith; below = omega arith }
-
-is_iopl : IsFlag 12
-is_iopl = record { one = omega arith; three = omega arith; five = omega arith; fifteen = omega arith; virtual = omega arith; below = omega arith }
-
-is_high_iopl : IsFlag 13
-is_high_iopl = record { one = omega arith; three = omega arith; five = omega arith; fifteen = omega arith; virtual = omega arith; below = omega arith }
-
-is_nt : IsFlag 14
-is_nt = record { one = omega arith; three = omega arith; five = omega arith; fifteen = omega arith; virtual = omega arith; below = omega arith }
-
-abbrev AreAll : List ℕ → Type 0
-AreAll [] = ⊤
-AreAll (k ∷ ks) = IsFlag k × AreAll ks
-
-both_all : (ks js : List ℕ) → AreAll ks → AreAll js → AreAll (ks ++ js)
-both_all [] js h i = i
-both_all (k ∷ ks) js h i = (h.0, both_all ks js h.1 i)
-
-either_all : (c : Bool) (ks js : List ℕ) → AreAll ks → AreAll js → AreAll (if c then ks else js)
-either_all true ks js h i = h
-either_all false ks js h i = i
-
-image_keeps : (from : ℕ) (ks : List ℕ) (n : ℕ) → AreAll ks → KeepsFlags n (with_bits_of from n ks)
-image_keeps from [] n h = flags_keep n
-image_keeps from (k ∷ ks) n h = then_keep (bit_keeps n k (bit_at from k) (bit_at-lt from k) h.0) (image_keeps from ks (with_bit n k (bit_at from k)) h.1)
-
-image_flags : (r : Regs) → AreAll (common_flags ++ interrupt_flag r ++ level_flags r)
-image_flags r = both_all common_flags _ (is_cf, (is_pf, (is_af, (is_zf, (is_sf, (is_tf, (is_df, (is_of, (is_nt, tt)))))))))
-    (both_all (interrupt_flag r) _ (either_all _ (9 ∷ []) [] (is_if, tt) tt) (either_all _ (12 ∷ 13 ∷ []) [] (is_iopl, (is_high_iopl, tt)) tt))
-
-pub image_stays : (r : Regs) (image : ℕ) → Steady r (with_image r image)
-unfolding with_image
-image_stays r image = eflags_stay r _ (image_keeps image (common_flags ++ interrupt_flag r ++ level_flags r) r.eflags (image_flags r))
 
 pub interrupts_stay : (r : Regs) (on : Bool) → Steady r (record r { eflags = with_bit r.eflags 9 (from_bool on) })
 interrupts_stay r on = bit_stays r 9 (from_bool on) (from_bool-lt on) is_if

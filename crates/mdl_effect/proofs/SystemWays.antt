@@ -1,10 +1,11 @@
 -- Each way through the plan of an instruction of the system.
 use Rattle.std.proofs.Common.{◌≡◌, ℕ, ◌==◌, ◌&&◌, Bool, true, false, cond, [], ◌∷◌, ◌++◌, refl, sym, ap, ◌∙◌, arith}
-use Rattle.std.specs.Prelude.{◌||◌, not, if◌then◌else◌, slice_set, bit_and}
+use Rattle.std.specs.Prelude.{⊤, ◌||◌, not, if◌then◌else◌, slice_set, bit_and}
 use Rattle.std.specs.Int.{bit_at}
 use Rattle.std.proofs.lemmas.Nat.Bits.{bit_at-lt}
 use Rattle.std.proofs.lemmas.Bool.Decides.{nat_tests}
 use Rattle.mdl_state.specs.declared.Size.{Size}
+use Rattle.mdl_state.specs.declared.Size.TheVariants.{B2}
 use Rattle.mdl_state.specs.declared.Fault.{Fault}
 use Rattle.mdl_state.specs.declared.Next.{Next}
 use Rattle.mdl_state.specs.declared.Next.TheVariants.{Soft, Task}
@@ -20,33 +21,34 @@ use Rattle.mdl_insn.specs.declared.instruction.Operand.{Operand}
 use Rattle.mdl_insn.specs.declared.instruction.Operand.TheVariants.{Gpr, Creg, Dreg, At}
 use Rattle.mdl_insn.specs.declared.mnemonics.Op.{Op}
 use Rattle.mdl_insn.specs.declared.mnemonics.Op.TheVariants as ops
+use Rattle.mdl_cpu.specs.Faults.{undefined_opcode}
 use Rattle.mdl_cpu.specs.Steady.{IsSound, Steady, steady_sound}
 use Rattle.mdl_effect.specs.Operands.{After, IsOrdinary, follow, is_plain, memory_write, value_of}
 use Rattle.mdl_effect.specs.Kinds.{is_memory, is_place}
 use Rattle.mdl_effect.specs.DataEffects.{is_special}
 use Rattle.mdl_effect.specs.Moves.{with_sized}
-use Rattle.mdl_effect.specs.FlagImages.{with_bits_of}
 use Rattle.mdl_effect.specs.InterruptEffects.{privileged, with_io_rights, interrupt_plan, overflow_plan, push_flags_plan, pop_flags_plan, clear_interrupts_plan, set_interrupts_plan, halt_plan}
 use Rattle.mdl_effect.specs.PortEffects.{in_plan, out_plan}
-use Rattle.mdl_effect.specs.TableEffects.{reading_table, writing_table, load_gdt_plan, load_idt_plan, store_gdt_plan, store_idt_plan}
-use Rattle.mdl_effect.specs.ControlEffects.{PE, MP, EM, TS, PG, with_control_register, set_control_plan, with_debug_register, special_move_of, special_move_plan, store_status_word_plan, with_status_word, load_status_word_plan, clear_task_switched_plan, wait_plan, escape_plan}
+use Rattle.mdl_effect.specs.TableEffects.{table_read, table_write, load_gdt_plan, load_idt_plan, store_gdt_plan, store_idt_plan}
+use Rattle.mdl_effect.specs.ControlEffects.{with_bits_of, PE, MP, EM, TS, PG, with_control_register, set_control_plan, with_debug_register, special_move_of, special_move_plan, store_status_word_plan, with_status_word, load_status_word_plan, clear_task_switched_plan, wait_plan, escape_plan}
 use Rattle.mdl_effect.specs.SystemEffects.{is_system, is_protected_only, is_mov, is_special_move, runs_system, system_by, system_effect}
 use Rattle.mdl_effect.specs.Forms.{IsFormedAs, IsFormed}
 use Rattle.mdl_effect.specs.Ways.{IsDefined, Leaves, LeavesTo, LeavesSound, IsSystemComplete}
-use Rattle.mdl_effect.proofs.Registers.{stays, then_stays, reg_stays, value_stays, sized_stays, same_bit, image_stays, interrupts_stay}
-use Rattle.mdl_effect.proofs.Operations.{follows, Ways, passes, fails, either_way, load_then, store_then, push_then, pop_then, place_read, reads}
+use Rattle.mdl_effect.proofs.Registers.{stays, reg_stays, value_stays, sized_stays, same_bit, interrupts_stay}
+use Rattle.mdl_effect.proofs.FarWays.{image_stays}
+use Rattle.mdl_effect.proofs.Operations.{follows, Ways, passes, fails, either_way, then_way, load_then, store_any, store_then, push_then, pop_then, place_read, reads}
 
 -- ---- what leaves the mode leaves the registers sound
 
-weaker : {A : Type 0} (P R : A → Type 0) (Q : Fault → Type 0) (plan : Plan A) → ((x : A) → P x → R x) → Ends P Q plan → Ends R Q plan
-weaker P R Q (Done x) f h = f x h
-weaker P R Q (Fail fault) f h = h
-weaker P R Q (Load lin size who k) f h = λ value. weaker P R Q (k value) f (h value)
-weaker P R Q (Store lin size value who k) f h = weaker P R Q k f h
-weaker P R Q (Translate lin size access k) f h = λ place. weaker P R Q (k place) f (h place)
-weaker P R Q (Get place size k) f h = λ value. weaker P R Q (k value) f (h value)
-weaker P R Q (Hold place size value k) f h = weaker P R Q k f h
-weaker P R Q (Input port size k) f h = λ value. weaker P R Q (k value) f (h value)
+weaker : {A : Type 0} (P R : A → Type 0) (Q S : Fault → Type 0) (plan : Plan A) → ((x : A) → P x → R x) → ((fault : Fault) → Q fault → S fault) → Ends P Q plan → Ends R S plan
+weaker P R Q S (Done x) f g h = f x h
+weaker P R Q S (Fail fault) f g h = g fault h
+weaker P R Q S (Load lin size who k) f g h = λ value. weaker P R Q S (k value) f g (h value)
+weaker P R Q S (Store lin size value who k) f g h = weaker P R Q S k f g h
+weaker P R Q S (Translate lin size access k) f g h = λ place. weaker P R Q S (k place) f g (h place)
+weaker P R Q S (Get place size k) f g h = λ value. weaker P R Q S (k value) f g (h value)
+weaker P R Q S (Hold place size value k) f g h = weaker P R Q S k f g h
+weaker P R Q S (Input port size k) f g h = λ value. weaker P R Q S (k value) f g (h value)
 
 ordinary : (next : Next) (old new : Regs) → IsOrdinary next → LeavesTo next old new
 ordinary (Soft vector) old new h = absurd h
@@ -55,7 +57,7 @@ ordinary _ old new h = tt
 
 -- an instruction that leaves the mode
 steadily : {r : Regs} {plan : Plan After} → Ways (Leaves r) plan → Ways (LeavesSound r) plan
-steadily {r} {plan} h = record { ends = weaker (Leaves r) (LeavesSound r) IsDefined plan (λ after l. (steady_sound r after.regs l.0, ordinary after.next r after.regs l.1)) h.ends }
+steadily {r} {plan} h = record { ends = weaker (Leaves r) (LeavesSound r) IsDefined IsDefined plan (λ after l. (steady_sound r after.regs l.0, ordinary after.next r after.regs l.1)) (λ fault d. d) h.ends }
 
 -- ---- checks
 
@@ -93,7 +95,7 @@ push_flags_way insn r = push_then r r _ _ _ (stays r) (λ _ h. follows h)
 
 pop_flags_way : (insn : Insn) (r : Regs) → Ways (Leaves r) (pop_flags_plan insn r)
 unfolding pop_flags_plan
-pop_flags_way insn r = pop_then r r _ _ (stays r) (λ popped h. follows (then_stays h (image_stays popped.1 popped.0)))
+pop_flags_way insn r = pop_then r r _ _ (stays r) (λ popped h. follows (image_stays r popped.1 popped.0 B2 h))
 
 clear_interrupts_way : (r : Regs) → Ways (Leaves r) (clear_interrupts_plan r)
 unfolding clear_interrupts_plan
@@ -119,12 +121,14 @@ out_way insn r = passes (stays r, tt)
 
 -- ---- the registers of the descriptor tables
 
-reads_table : {P : After → Type 0} (r : Regs) (a : Operand) (k : ℕ → ℕ → Plan After) → is_memory a ≡ true → ((limit base : ℕ) → Ways P (k limit base)) → Ways P (reading_table r a k)
-reads_table r (At mem size) k e h = load_then _ _ _ _ _ (λ limit. load_then _ _ _ _ _ (λ base. h limit base))
-reads_table r _ k e h = absurd cc
+reads_table : (r : Regs) (a : Operand) → is_memory a ≡ true → Ways (λ (_ : ℕ × ℕ). ⊤) (table_read r a)
+unfolding table_read
+reads_table r (At mem size) e = load_then _ _ _ _ _ (λ limit. load_then _ _ _ _ _ (λ base. passes tt))
+reads_table r _ e = absurd cc
 
-writes_table : (r : Regs) (a : Operand) (limit base : ℕ) → is_memory a ≡ true → Ways (Leaves r) (writing_table r a limit base)
-writes_table r (At mem size) limit base e = store_then _ _ _ _ _ _ (λ _. store_then _ _ _ _ _ _ (λ _. follows (stays r)))
+writes_table : (r : Regs) (a : Operand) (limit base : ℕ) → is_memory a ≡ true → Ways (λ (_ : Unit {0}). ⊤) (table_write r a limit base)
+unfolding table_write
+writes_table r (At mem size) limit base e = store_then _ _ _ _ _ _ (λ _. store_any _ _ _ _ _)
 writes_table r _ limit base e = absurd cc
 
 gdt_stays : (r : Regs) (limit base : ℕ) → Steady r (record r { gdt_limit = limit; gdt_base = base })
@@ -136,19 +140,19 @@ idt_stays r limit base = record { cr0 = refl; cr3 = refl; cpl = refl; virtual = 
 module _ (insn : Insn) (r : Regs) (a : is_memory insn.a ≡ true) where
   load_gdt_way : Ways (Leaves r) (load_gdt_plan insn r)
   unfolding load_gdt_plan
-  load_gdt_way = at_level_0 r (λ _. reads_table r insn.a _ a (λ limit base. follows (gdt_stays r limit _)))
+  load_gdt_way = at_level_0 r (λ _. then_way (reads_table r insn.a a) (λ table _. follows (gdt_stays r table.0 _)))
 
   load_idt_way : Ways (Leaves r) (load_idt_plan insn r)
   unfolding load_idt_plan
-  load_idt_way = at_level_0 r (λ _. reads_table r insn.a _ a (λ limit base. follows (idt_stays r limit _)))
+  load_idt_way = at_level_0 r (λ _. then_way (reads_table r insn.a a) (λ table _. follows (idt_stays r table.0 _)))
 
   store_gdt_way : Ways (Leaves r) (store_gdt_plan insn r)
   unfolding store_gdt_plan
-  store_gdt_way = writes_table r insn.a _ _ a
+  store_gdt_way = then_way (writes_table r insn.a _ _ a) (λ _ _. follows (stays r))
 
   store_idt_way : Ways (Leaves r) (store_idt_plan insn r)
   unfolding store_idt_plan
-  store_idt_way = writes_table r insn.a _ _ a
+  store_idt_way = then_way (writes_table r insn.a _ _ a) (λ _ _. follows (stays r))
 
 -- ---- control and debug registers
 
@@ -310,3 +314,25 @@ without false false c e h = e
 pub system_complete : (insn : Insn) (r : Regs) (back : ℕ) → IsFormed insn → runs_system insn ≡ true → is_protected_only insn.op ≡ false → IsSystemComplete r (system_effect insn r back)
 unfolding system_effect
 system_complete insn r back f e h = (system_way insn.op insn r f (without (is_system insn.op) (is_protected_only insn.op) (is_special_move insn) e h)).ends
+
+-- ---- those of protected mode as well
+
+protected_fails : (op : Op) (insn : Insn) (r : Regs) → is_protected_only op ≡ true → system_by op insn r ≡ Fail undefined_opcode
+protected_fails ops.Arpl insn r e = refl
+protected_fails ops.Lar insn r e = refl
+protected_fails ops.Lsl insn r e = refl
+protected_fails ops.Verr insn r e = refl
+protected_fails ops.Verw insn r e = refl
+protected_fails ops.Sldt insn r e = refl
+protected_fails ops.Str insn r e = refl
+protected_fails ops.Lldt insn r e = refl
+protected_fails ops.Ltr insn r e = refl
+protected_fails _ insn r e = absurd cc
+
+-- whatever the check that fails
+pub system_sound : (insn : Insn) (r : Regs) (back : ℕ) → IsFormed insn → runs_system insn ≡ true → Ends (LeavesSound r) (λ (_ : Fault). ⊤) (system_effect insn r back)
+unfolding system_effect
+system_sound insn r back f e = elim (is_protected_only insn.op) as (λ v. is_protected_only insn.op ≡ v → Ends (LeavesSound r) (λ (_ : Fault). ⊤) (system_by insn.op insn r)) [
+  | true ↦ λ h. rw (protected_fails insn.op insn r h) tt
+  | false ↦ λ h. weaker (LeavesSound r) (LeavesSound r) IsDefined (λ (_ : Fault). ⊤) (system_by insn.op insn r) (λ after l. l) (λ fault d. tt) (system_complete insn r back f e h)
+] refl

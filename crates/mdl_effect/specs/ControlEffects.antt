@@ -1,6 +1,7 @@
 -- Control and debug registers, the machine status word, and what the coprocessor's bits of CR0 do. Manual,
 -- chapters 4, 10, 11, 12 and 17, under MOV to and from special registers, SMSW, LMSW, CLTS, WAIT and ESC.
-use Rattle.std.specs.Prelude.{ℕ, ◌%◌, ◌^◌, ◌==◌, ◌&&◌, ◌||◌, not, if◌then◌else◌, [], ◌∷◌, ◌++◌, slice_index, slice_set, bit_and}
+use Rattle.std.specs.Prelude.{ℕ, ◌%◌, ◌^◌, ◌==◌, ◌&&◌, ◌||◌, not, if◌then◌else◌, List, [], ◌∷◌, ◌++◌, slice_index, slice_set, bit_and}
+use Rattle.std.specs.Int.{bit_at}
 use Rattle.mdl_state.specs.declared.Regs.{Regs}
 use Rattle.mdl_state.specs.declared.Fault.{Fault}
 use Rattle.mdl_state.specs.Bytes.{bit}
@@ -12,7 +13,6 @@ use Rattle.mdl_insn.specs.declared.instruction.Operand.TheVariants.{Creg, Dreg}
 use Rattle.mdl_cpu.specs.Faults.{coded_fault, general_protection}
 use Rattle.mdl_effect.specs.Operands.{After, follow, no_such, memory_write, is_plain, value_of, with_value, reading}
 use Rattle.mdl_effect.specs.Moves.{with_sized}
-use Rattle.mdl_effect.specs.FlagImages.{with_bits_of}
 use Rattle.mdl_effect.specs.InterruptEffects.{privileged}
 
 -- the bits of CR0: protection, a coprocessor to be waited for, one that is emulated, a task that was switched
@@ -31,6 +31,11 @@ TS = 3
 
 abbrev pub PG : ℕ
 PG = 31
+
+-- a number with these bits as another number has them
+abbrev pub with_bits_of : ℕ → ℕ → List ℕ → ℕ
+with_bits_of from n [] = n
+with_bits_of from n (place ∷ places) = with_bits_of from (with_bit n place (bit_at from place)) places
 
 -- ---- control registers
 

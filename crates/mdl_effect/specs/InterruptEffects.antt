@@ -9,11 +9,10 @@ use Rattle.mdl_num.specs.declared.status.TheConstants.{OF}
 use Rattle.mdl_num.specs.Flags.{is_set}
 use Rattle.mdl_insn.specs.declared.instruction.Insn.{Insn}
 use Rattle.mdl_cpu.specs.Faults.{general_protection}
-use Rattle.mdl_cpu.specs.SystemFlags.{IF, io_level}
+use Rattle.mdl_cpu.specs.SystemFlags.{IF, io_level, taken_flags, with_flags_from}
 use Rattle.mdl_cpu.specs.Stack.{pop_plan}
 use Rattle.mdl_effect.specs.Operands.{After, NoPort, follow}
 use Rattle.mdl_effect.specs.FlagEffects.{with_flag}
-use Rattle.mdl_effect.specs.FlagImages.{with_image}
 use Rattle.mdl_effect.specs.StackEffects.{pushing}
 
 -- at privilege level 0, and else a general protection fault
@@ -39,9 +38,10 @@ overflow_plan r = if is_set r.eflags OF then interrupt_plan 4 r else follow r
 unfoldable pub push_flags_plan : Insn → Regs → Plan After
 push_flags_plan insn r = pushing r insn.size (r.eflags % bound_of insn.size)
 
--- POPF and POPFD
+-- POPF and POPFD: RF and VM stay
 unfoldable pub pop_flags_plan : Insn → Regs → Plan After
-pop_flags_plan insn r = then_plan (pop_plan r insn.size) (λ popped. follow (with_image popped.1 popped.0))
+pop_flags_plan insn r = then_plan (pop_plan r insn.size) (λ popped.
+    follow (record popped.1 { eflags = with_flags_from popped.0 (taken_flags r) r.eflags }))
 
 -- CLI
 unfoldable pub clear_interrupts_plan : Regs → Plan After

@@ -9,7 +9,6 @@ pub mod StackEffects
 pub mod Jumps
 pub mod FlagEffects
 pub mod FlowEffects
-pub mod FlagImages
 pub mod InterruptEffects
 pub mod PortEffects
 pub mod TableEffects

@@ -61,7 +61,7 @@ is_special_move insn = is_mov insn.op && (is_special insn.a || is_special insn.b
 abbrev pub runs_system : Insn → Bool
 runs_system insn = is_system insn.op || is_protected_only insn.op || is_special_move insn
 
--- what an instruction of protected mode does, which is not built. Own: Steps that are not built.
+-- To real mode and V86 they are not defined; protected mode is not built. Own: Steps that are not built.
 abbrev pub protected_plan : Regs → Plan After
 protected_plan r = Fail undefined_opcode
 
