@@ -1,9 +1,24 @@
-//! Loads of segment registers, in real mode.
+//! Descriptors, and loads of segment registers, of LDTR and of TR, in each mode.
 //!
-//! The one contract used above: `load_data` and `load_stack` are the written load, in an attempt.
-//! Read `mdl_cpu/specs/Loads.antt` first.
+//! The one contract used above: each call is its written plan, tried over any memory, as
+//! `load_data` is `load_data_plan`. Read `mdl_cpu/specs/Descriptors.antt` first, then `Loads.antt`.
 #![tactic(auto)]
 
-mod loads;
+mod descriptors;
+mod marks;
+mod segments;
+mod selectors;
+mod system;
 
-pub use loads::{load_data, load_stack};
+pub use descriptors::{
+    dpl, fetch_descriptor, is_beyond, is_code, is_conforming, is_data, is_outside, is_present,
+    is_readable_code, is_segment, is_writable_data, place_of, read_descriptor, system_type,
+};
+pub use marks::{set_accessed, set_busy};
+pub use mdl_cpu::Desc;
+pub use segments::{
+    load_data, load_data_or, load_known, load_real, load_segment, load_stack, load_v86,
+    stack_descriptor,
+};
+pub use selectors::{fault_at, in_ldt, is_null, rpl};
+pub use system::{load_ldt, load_task};
