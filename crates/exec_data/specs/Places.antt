@@ -1,5 +1,5 @@
 -- Which operands of a data instruction are never memory. Manual, chapter 17.
-use Rattle.std.specs.Prelude.{◌&&◌, ◌||◌, Bool, true, false}
+use Rattle.std.specs.Prelude.{◌&&◌, ◌||◌, Bool, true}
 use Rattle.mdl_insn.specs.declared.instruction.Insn.{Insn}
 use Rattle.mdl_insn.specs.declared.mnemonics.Op.{Op}
 use Rattle.mdl_insn.specs.declared.mnemonics.Op.TheVariants as ops

@@ -5,7 +5,6 @@ ghost use Rattle.mdl_state.specs.Serving.{by_pick};
 ghost use Rattle.mdl_state.specs.Accesses.{Keeps, HasRoom};
 ghost use Rattle.mdl_state.specs.Attempt.{tried};
 ghost use Rattle.mdl_cpu.specs.Addresses.{HasAddress};
-ghost use Rattle.mdl_cpu.specs.Segments.{has_protection};
 ghost use Rattle.mdl_effect.specs.Moves.{pointer_plan};
 ghost use Rattle.mdl_effect.specs.Kinds.{is_memory};
 ghost use Rattle.mdl_effect.specs.Forms.{IsOf};
@@ -25,7 +24,6 @@ pub(crate) fn load_pointer<L: Linear>(
     insn: &Insn,
     seg: Seg,
 ) -> Result<(), Fault>
-    requires mode { has_protection regs.old ≡ false }
     requires a { IsOf insn.now.size insn.now.a }
     requires memory { is_memory insn.now.b ≡ true }
     requires address { HasAddress insn.now.b }

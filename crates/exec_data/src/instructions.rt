@@ -5,7 +5,6 @@ ghost use Rattle.mdl_insn.specs.Spelling.{Spelt};
 ghost use Rattle.mdl_state.specs.Serving.{by_pick};
 ghost use Rattle.mdl_state.specs.Accesses.{Keeps, HasRoom};
 ghost use Rattle.mdl_state.specs.Attempt.{tried};
-ghost use Rattle.mdl_cpu.specs.Segments.{has_protection};
 ghost use Rattle.mdl_effect.specs.DataEffects.{runs_data};
 ghost use Rattle.mdl_effect.specs.DataEffects.{data_effect};
 ghost use Rattle.mdl_cpu.specs.Steady.{Steady};
@@ -33,7 +32,6 @@ pub fn run<L: Linear>(
 ) -> Result<Next, Fault>
     requires spelt { (bytes : List ℕ) × (big : Bool) × Spelt bytes big insn.now }
     requires runs { IsTrue (runs_data insn.now) }
-    requires mode { has_protection regs.old ≡ false }
     requires room { HasRoom (L.seen lin.old) 4 }
     ensures run { (ran result (whole regs.new flags.new), L.seen lin.new)
         ≡ tried (by_pick L.pick) 0 (data_effect insn.now (whole regs.old flags.old) (whole regs.new flags.new).eflags) (L.seen lin.old) }

@@ -5,7 +5,6 @@ ghost use Rattle.mdl_state.specs.Serving.{by_pick};
 ghost use Rattle.mdl_state.specs.Accesses.{Keeps, HasRoom};
 ghost use Rattle.mdl_state.specs.Attempt.{tried};
 ghost use Rattle.mdl_cpu.specs.Addresses.{HasAddress, HasAddresses};
-ghost use Rattle.mdl_cpu.specs.Segments.{has_protection};
 ghost use Rattle.mdl_effect.specs.Operands.{is_plain, is_nothing, is_segment};
 ghost use Rattle.mdl_effect.specs.Moves.{mov_plan};
 ghost use Rattle.mdl_effect.specs.Kinds.{is_memory};
@@ -121,7 +120,6 @@ fn move_out<L: Linear>(regs: &mut Regs, lin: &mut L, insn: &Insn) -> Result<Next
 
 /// MOV.
 fn run_move<L: Linear>(regs: &mut Regs, lin: &mut L, insn: &Insn) -> Result<Next, Fault>
-    requires mode { has_protection regs.old ≡ false }
     requires form { IsMove insn.now.a insn.now.b insn.now.size }
     requires special_a { is_special insn.now.a ≡ false }
     requires special_b { is_special insn.now.b ≡ false }
@@ -143,7 +141,6 @@ fn run_move<L: Linear>(regs: &mut Regs, lin: &mut L, insn: &Insn) -> Result<Next
 /// The instruction by its mnemonic, where that takes memory or a segment register alone.
 #[tactic(auto, using(crate::proofs::Memories::segment_popped), unfolding(mdl_effect::specs::DataEffects::data_effect))]
 fn run_address<L: Linear>(regs: &mut Regs, lin: &mut L, insn: &Insn) -> Result<Next, Fault>
-    requires mode { has_protection regs.old ≡ false }
     requires data { is_data insn.now.op ≡ false }
     requires runs { runs_data insn.now ≡ true }
     requires formed { IsFormed insn.now }
@@ -178,7 +175,6 @@ pub(crate) fn run_memory<L: Linear>(
     lin: &mut L,
     insn: &Insn,
 ) -> Result<Next, Fault>
-    requires mode { has_protection regs.old ≡ false }
     requires runs { runs_data insn.now ≡ true }
     requires memory { is_plain_data insn.now ≡ false }
     requires formed { IsFormed insn.now }

@@ -7,7 +7,6 @@ ghost use Rattle.mdl_state.specs.Serving.{by_pick};
 ghost use Rattle.mdl_state.specs.Accesses.{Keeps, HasRoom};
 ghost use Rattle.mdl_state.specs.Attempt.{tried};
 ghost use Rattle.mdl_cpu.specs.Addresses.{HasAddress};
-ghost use Rattle.mdl_cpu.specs.Segments.{has_protection};
 ghost use Rattle.mdl_cpu.specs.Loads.{load_plan, answered};
 ghost use Rattle.mdl_effect.specs.Moves.{after_load, load_segment_plan, store_segment_plan, pop_segment_plan};
 ghost use Rattle.mdl_effect.specs.Operands.{is_segment};
@@ -15,7 +14,6 @@ ghost use Rattle.mdl_effect.specs.Kinds.{is_place};
 ghost use Rattle.mdl_effect.specs.Forms.{IsOf};
 ghost use Rattle.operands.specs.Whole.{whole, after, ran, KeepsOther};
 
-use desc_load::{load_data, load_stack};
 use mdl_insn::{Insn, Operand};
 use mdl_state::{Fault, Next, Regs, Seg, Size};
 use mem_iface::Linear;
@@ -29,17 +27,13 @@ pub(crate) fn load_segment<L: Linear>(
     seg: Seg,
     sel: u16,
 ) -> Result<(), Fault>
-    requires mode { has_protection regs.old ≡ false }
     requires room { HasRoom (L.seen lin.old) 1 }
     ensures run { (flags : ℕ) → (answered result (whole regs.new flags), L.seen lin.new)
         ≡ tried (by_pick L.pick) 0 (load_plan (whole regs.old flags) seg sel) (L.seen lin.old) }
     ensures unchanged { OnErr result (regs.new ≡ regs.old) }
     ensures keeps { Keeps (L.seen lin.old) (L.seen lin.new) }
 {
-    match seg {
-        Seg::Ss => load_stack(regs, lin, sel),
-        _ => load_data(regs, lin, seg, sel),
-    }
+    desc_load::load_segment(regs, lin, seg, sel)
 }
 
 /// What follows such a load.
@@ -60,7 +54,6 @@ pub(crate) fn move_to_segment<L: Linear>(
     insn: &Insn,
     seg: Seg,
 ) -> Result<Next, Fault>
-    requires mode { has_protection regs.old ≡ false }
     requires place { is_place insn.now.b ≡ true }
     requires b { IsOf B2 insn.now.b }
     requires address { HasAddress insn.now.b }
@@ -128,7 +121,6 @@ pub(crate) fn pop_segment<L: Linear>(
     lin: &mut L,
     insn: &Insn,
 ) -> Result<Next, Fault>
-    requires mode { has_protection regs.old ≡ false }
     requires segment { is_segment insn.now.a ≡ true }
     requires room { HasRoom (L.seen lin.old) 1 }
     ensures run { (flags : ℕ) → (ran result (whole regs.new flags), L.seen lin.new)
