@@ -4,16 +4,19 @@ use Rattle.mdl_insn.specs.declared.instruction.Insn.{Insn}
 use Rattle.mdl_effect.specs.DataEffects.{runs_data}
 use Rattle.mdl_effect.specs.FlowEffects.{runs_flow}
 use Rattle.mdl_effect.specs.StringEffects.{runs_string}
+use Rattle.mdl_effect.specs.FarEffects.{runs_far}
 use Rattle.step_lines.specs.declared.steps.Family.{Family}
-use Rattle.step_lines.specs.declared.steps.Family.TheVariants.{Data, Flow, Strings}
+use Rattle.step_lines.specs.declared.steps.Family.TheVariants.{Data, Flow, Strings, Far}
 
 -- a crate runs an instruction
 abbrev pub Belongs : Family → Insn → Type 0
 Belongs Data insn = IsTrue (runs_data insn)
 Belongs Flow insn = IsTrue (runs_flow insn)
 Belongs Strings insn = IsTrue (runs_string insn.op)
+Belongs Far insn = IsTrue (runs_far insn)
 
--- the crate is that of the data instructions
-abbrev pub is_data_family : Family → Bool
-is_data_family Data = true
-is_data_family _ = false
+-- the crate runs its instructions in real mode alone
+abbrev pub is_of_real_mode : Family → Bool
+is_of_real_mode Data = true
+is_of_real_mode Far = true
+is_of_real_mode _ = false

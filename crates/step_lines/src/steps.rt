@@ -1,17 +1,19 @@
 //! One step, by the crate that runs its instruction.
 
-ghost use Rattle.std.specs.Prelude.{◌≡◌, ℕ, List, Bool, true, false, IsTrue, IfSome, OnOk, OnErr};
+ghost use Rattle.std.specs.Prelude.{◌≡◌, ℕ, List, [], Bool, true, false, IsTrue, IfSome, OnOk, OnErr};
 ghost use Rattle.mdl_insn.specs.Spelling.{Spelt};
 ghost use Rattle.mdl_state.specs.Serving.{by_pick};
-ghost use Rattle.mdl_state.specs.Accesses.{committed, discarded, HasRoom};
+ghost use Rattle.mdl_state.specs.Accesses.{committed, discarded};
 ghost use Rattle.mdl_state.specs.Attempt.{tried};
 ghost use Rattle.mdl_cpu.specs.Segments.{has_protection};
+ghost use Rattle.mdl_effect.specs.FarEffects.{runs_far, far_effect};
 ghost use Rattle.mdl_step.specs.Effects.{effect};
 ghost use Rattle.mdl_step.specs.Step.{landed};
 ghost use Rattle.operands.specs.Whole.{whole, ran};
-ghost use Rattle.step_lines.specs.Families.{Belongs, is_data_family};
+ghost use Rattle.step_lines.specs.Families.{Belongs, is_of_real_mode};
 
 use exec_data::runs_data;
+use exec_far::runs_far;
 use exec_flow::runs_flow;
 use insn_decode::decode_slice;
 use lazy_flags::Flags;
@@ -20,8 +22,8 @@ use mdl_state::{Fault, Next, Regs};
 use mem_iface::Linear;
 use string_ops::runs_string;
 
-/// How many bytes an instruction may hold.
-const ROOM: u16 = 128;
+/// How many bytes may be held: so many where none is.
+const ROOM: u16 = 256;
 
 /// PE of CR0.
 const PROTECTION: u32 = 1;
@@ -32,6 +34,7 @@ enum Family {
     Data,
     Flow,
     Strings,
+    Far,
 }
 
 /// The crate that runs an instruction.
@@ -46,6 +49,9 @@ fn family_of(insn: &Insn) -> Option<Family>
     }
     if runs_string(insn.op) {
         return Some(Family::Strings);
+    }
+    if runs_far(insn) {
+        return Some(Family::Far);
     }
     None
 }
@@ -64,14 +70,38 @@ fn instruction_of(code: &[u8], big: bool) -> Option<(Insn, u8, Family)>
     }
 }
 
-/// Data instructions run in real mode. The others do so too, but for a stack of 32 bits.
+/// Data and far instructions run in real mode. The others do so too, but for a stack of 32 bits.
 fn set_mode(regs: &mut Regs, family: Family, big: bool)
-    ensures { is_data_family family ≡ true → has_protection regs.new ≡ false }
+    ensures { is_of_real_mode family ≡ true → has_protection regs.new ≡ false }
 {
     regs.cr0 = match family {
-        Family::Data => 0,
+        Family::Data | Family::Far => 0,
         Family::Flow | Family::Strings => { if big { PROTECTION } else { 0 } }
     };
+}
+
+/// A far instruction, which has EFLAGS whole.
+fn run_far<L: Linear>(
+    regs: &mut Regs,
+    flags: &mut Flags,
+    lin: &mut L,
+    insn: &Insn,
+    back: u32,
+) -> Result<Next, Fault>
+    requires spelt { (bytes : List ℕ) × (big : Bool) × Spelt bytes big insn.now }
+    requires runs { IsTrue (runs_far insn.now) }
+    requires mode { has_protection regs.old ≡ false }
+    requires held { (L.seen lin.old).held ≡ [] }
+    ensures run { (ran result (whole regs.new flags.new), L.seen lin.new)
+        ≡ tried (by_pick L.pick) 0 (far_effect insn.now (whole regs.old flags.old) back) (L.seen lin.old) }
+    ensures unchanged { OnErr result ((regs.new ≡ regs.old) × (flags.new ≡ flags.old)) }
+{
+    let mut packed = *regs;
+    packed.eflags = flags.pack(regs.eflags);
+    let next = exec_far::run(&mut packed, lin, insn, back)?;
+    *flags = Flags::unpack(packed.eflags);
+    *regs = packed;
+    Ok(next)
 }
 
 /// An instruction in an attempt, by its crate. `back` is the EIP behind it.
@@ -86,8 +116,8 @@ fn execute<L: Linear>(
 ) -> Result<Next, Fault>
     requires spelt { (bytes : List ℕ) × (big : Bool) × Spelt bytes big insn.now }
     requires family { Belongs family insn.now }
-    requires mode { is_data_family family ≡ true → has_protection regs.old ≡ false }
-    requires room { HasRoom (L.seen lin.old) 128 }
+    requires mode { is_of_real_mode family ≡ true → has_protection regs.old ≡ false }
+    requires held { (L.seen lin.old).held ≡ [] }
     ensures run { (ran result (whole regs.new flags.new), L.seen lin.new)
         ≡ tried (by_pick L.pick) 0 (effect insn.now (whole regs.old flags.old) back (whole regs.new flags.new).eflags) (L.seen lin.old) }
     ensures unchanged { OnErr result ((regs.new ≡ regs.old) × (flags.new ≡ flags.old)) }
@@ -96,6 +126,7 @@ fn execute<L: Linear>(
         Family::Data => exec_data::run(regs, flags, lin, insn, back),
         Family::Flow => exec_flow::run(regs, flags, lin, insn, back),
         Family::Strings => string_ops::run(regs, flags, lin, insn),
+        Family::Far => run_far(regs, flags, lin, insn, back),
     }
 }
 
