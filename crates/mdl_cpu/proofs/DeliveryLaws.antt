@@ -1,5 +1,5 @@
 -- Deliveries: why four are enough, and what serves one by a rule.
-use Rattle.std.proofs.Common.{◌≡◌, ◌<◌, ◌≤◌, ℕ, zero, suc, ◌+◌, Bool, true, false, not, refl, ap, sym, ◌∙◌, arith, Option, Some, None}
+use Rattle.std.proofs.Common.{◌≡◌, ◌<◌, ◌≤◌, ℕ, zero, suc, ◌+◌, Bool, true, false, not, refl, ap, ◌∙◌, arith, [], Option, Some, None}
 use Rattle.std.specs.Prelude.{◌==◌, ◌&&◌, ◌-◌, ◌%◌, if◌then◌else◌, IfSome}
 use Rattle.mdl_state.specs.declared.Regs.{Regs}
 use Rattle.mdl_state.specs.declared.Fault.{Fault}
@@ -7,6 +7,7 @@ use Rattle.mdl_state.specs.State.{Mem}
 use Rattle.mdl_state.specs.Serving.{Serve, Pick, Policy, Outcome, Passed, Failed, NoStep, handled, by_pick, by_list}
 use Rattle.mdl_state.specs.Accesses.{committed, discarded}
 use Rattle.mdl_state.specs.Attempt.{tried, finished}
+use Rattle.mdl_state.specs.Restart.{bare, OnlyMarks, Leaves, IsFailed, tried_bare}
 use Rattle.mdl_state.specs.Choices.{Meets, Follows, page_follows, tried_follows, handled_follows, stays_follow}
 use Rattle.mdl_cpu.specs.declared.Cause.{Cause}
 use Rattle.mdl_cpu.specs.declared.Class.{Class}
@@ -17,9 +18,9 @@ use Rattle.mdl_cpu.specs.Causes.{fault_cause, with_address}
 use Rattle.mdl_cpu.specs.Gates.{gate_plan, with_ext}
 use Rattle.mdl_cpu.specs.DoubleFault.{class_of, class_of_fault, by_class, combine}
 use Rattle.mdl_cpu.specs.Delivery.{Arrival, running, shut_down, delivered_once, followed_by, deliveries, deliver}
-use Rattle.mdl_cpu.specs.Deliveries.{rank_of, IsSerious, Serious, IfFailed, IsStep, RaisesPageFaults, ServesAll}
+use Rattle.mdl_cpu.specs.Deliveries.{IsSerious, Serious, IfFailed, IsStep, RaisesPageFaults, ServesAll, KeepsWatch}
 use Rattle.mdl_cpu.proofs.GateLaws.{gate_ends}
-use Rattle.mdl_cpu.proofs.ServingLaws.{tried_serious, tried_steps}
+use Rattle.mdl_cpu.proofs.ServingLaws.{tried_serious, tried_steps, tried_keeps, then_kept, by_pick_raises, by_list_raises}
 
 -- ---- one delivery
 
@@ -50,6 +51,14 @@ unfolding delivered_once
 once_steps serve serves cause r m = finished_steps cause.ext (tried serve 0 (gate_plan cause r) m) (tried_steps serve serves 0 (gate_plan cause r) m)
 
 -- ---- what follows a fault has a lower rank
+
+-- how many deliveries may follow that of a cause: a contributory fault, a page fault after that, a double fault after
+-- either
+abbrev pub rank_of : Class → ℕ
+rank_of Benign = 3
+rank_of Contributory = 2
+rank_of PageFault = 1
+rank_of DoubleFault = 0
 
 falls : (a b : Class) (fault : Fault) → class_of_fault fault.vector ≡ b → IsSerious b → IfSome (by_class a b fault) (λ next. rank_of (class_of_fault next.vector) < rank_of a)
 falls Benign Benign fault e s = absurd s
@@ -161,3 +170,54 @@ module _ (pick : Pick) (policy : Policy) (meets : Meets pick policy) where
   pub deliver_follows : (cause : Cause) (r : Regs) (m : Mem) → Follows m (deliver (by_pick pick) cause r m) (λ n. deliver (by_list policy) cause r n)
   unfolding deliver
   deliver_follows cause r m = deliveries_follow 4 cause r m
+
+-- ---- memory
+
+finished_kept : (ext : Bool) (m : Mem) (w : Outcome Regs × Mem) → KeepsWatch m w.1 → KeepsWatch m (finished (with_ext ext w)).1
+unfolding committed discarded
+finished_kept ext m (Passed x, n) h = record { served = h.served; watch = h.watch; hits = h.hits }
+finished_kept ext m (Failed fault, n) h = record { served = h.served; watch = h.watch; hits = h.hits }
+finished_kept ext m (NoStep, n) h = record { served = h.served; watch = h.watch; hits = h.hits }
+
+-- a delivery by a rule leaves what stands beside the contents of memory
+pub once_keeps : (pick : Pick) (cause : Cause) (r : Regs) (m : Mem) → KeepsWatch m (delivered_once (by_pick pick) cause r m).1
+unfolding delivered_once
+once_keeps pick cause r m = finished_kept cause.ext m (tried (by_pick pick) 0 (gate_plan cause r) m) (tried_keeps pick 0 (gate_plan cause r) m)
+
+handled_keeps : (m : Mem) (w : Outcome Regs × Mem) (k : Regs → Mem → Outcome Arrival × Mem) (x : Fault → Mem → Outcome Arrival × Mem) → KeepsWatch m w.1
+    → ((q : Regs) (n : Mem) → KeepsWatch n (k q n).1) → ((fault : Fault) (n : Mem) → KeepsWatch n (x fault n).1) → KeepsWatch m (handled w k x).1
+handled_keeps m (Passed q, n) k x h e f = then_kept h (e q n)
+handled_keeps m (Failed fault, n) k x h e f = then_kept h (f fault n)
+handled_keeps m (NoStep, n) k x h e f = h
+
+kept : (m : Mem) → KeepsWatch m m
+kept m = record { served = refl; watch = refl; hits = λ _. refl }
+
+followed_keeps : (o : Option Fault) (r : Regs) (m : Mem) (x : Cause → Regs → Mem → Outcome Arrival × Mem)
+    → ((c : Cause) (q : Regs) (k : Mem) → KeepsWatch k (x c q k).1) → KeepsWatch m (followed_by o r m x).1
+followed_keeps None r m x e = kept m
+followed_keeps (Some fault) r m x e = e (fault_cause r fault) (with_address r fault) m
+
+deliveries_keep : (pick : Pick) (n : ℕ) (cause : Cause) (r : Regs) (m : Mem) → KeepsWatch m (deliveries n (by_pick pick) cause r m).1
+unfolding deliveries
+deliveries_keep pick zero cause r m = kept m
+deliveries_keep pick (suc n) cause r m = handled_keeps m (delivered_once (by_pick pick) cause r m) _ _ (once_keeps pick cause r m) (λ q k. kept k)
+    (λ fault k. followed_keeps (combine cause fault) r k (deliveries n (by_pick pick)) (λ c q j. deliveries_keep pick n c q j))
+
+pub deliver_keeps : (pick : Pick) (cause : Cause) (r : Regs) (m : Mem) → KeepsWatch m (deliver (by_pick pick) cause r m).1
+unfolding deliver
+deliver_keeps pick cause r m = deliveries_keep pick 4 cause r m
+
+-- RESTART: a delivery that raises a fault leaves memory as it was but for the cache and the marks of walks.
+once_bare : (ext : Bool) (m : Mem) (w : Outcome Regs × Mem) → Leaves m w → IsFailed (finished (with_ext ext w)).0 → (bare (finished (with_ext ext w)).1 ≡ bare m) × ((finished (with_ext ext w)).1.held ≡ [])
+unfolding discarded
+once_bare ext m (Passed x, n) l f = absurd f
+once_bare ext m (Failed fault, n) l f = (l.same, refl)
+once_bare ext m (NoStep, n) l f = absurd f
+
+pub once_restarts : (serve : Serve) → OnlyMarks serve → (cause : Cause) (r : Regs) (m : Mem) → IsFailed (delivered_once serve cause r m).0
+    → (bare (delivered_once serve cause r m).1 ≡ bare m) × ((delivered_once serve cause r m).1.held ≡ [])
+unfolding delivered_once
+once_restarts serve marks cause r m f = once_bare cause.ext m (tried serve 0 (gate_plan cause r) m) (tried_bare serve marks 0 (gate_plan cause r) m) f
+
+pub ruleset fifth = (no_fifth, always_arrives, by_pick_raises, by_list_raises)

@@ -3,7 +3,6 @@ use Rattle.std.proofs.Common.{◌≡◌, ◌≢◌, ◌<◌, ℕ, Bool, true, fa
 use Rattle.std.specs.Prelude.{◌+◌, ◌*◌, ◌%◌, ◌^◌, ◌==◌, ⊤, if◌then◌else◌, nat_lt, Ok, Err}
 use Rattle.mdl_state.specs.declared.Size.{Size}
 use Rattle.mdl_state.specs.declared.Size.TheVariants.{B1, B2, B4}
-use Rattle.mdl_state.specs.declared.Seg.{Seg}
 use Rattle.mdl_state.specs.declared.Seg.TheVariants.{Cs, Ss}
 use Rattle.mdl_state.specs.declared.Who.TheVariants.{Tables}
 use Rattle.mdl_state.specs.declared.Regs.{Regs}

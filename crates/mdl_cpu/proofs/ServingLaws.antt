@@ -1,5 +1,5 @@
 -- What comes of a plan where pages are served so: no step is missing, and faults are page faults or the plan's own.
-use Rattle.std.proofs.Common.{◌≡◌, ℕ, ◌+◌, Bool, true, false, not, refl, List, [], ◌∷◌, Result, Ok, Err, Option, Some, None}
+use Rattle.std.proofs.Common.{◌≡◌, ℕ, ◌+◌, Bool, true, false, not, refl, ◌∙◌, List, [], ◌∷◌, Result, Ok, Err, Option, Some, None}
 use Rattle.std.specs.Prelude.{◌%◌, ◌^◌, ◌==◌, if◌then◌else◌}
 use Rattle.mdl_state.specs.declared.Size.{Size}
 use Rattle.mdl_state.specs.declared.Who.{Who}
@@ -8,15 +8,17 @@ use Rattle.mdl_state.specs.declared.Access.{Access}
 use Rattle.mdl_state.specs.declared.Access.TheVariants.{Read, Write}
 use Rattle.mdl_state.specs.declared.Entry.{Entry}
 use Rattle.mdl_state.specs.declared.Fault.{Fault}
+use Rattle.mdl_state.specs.declared.Place.{Place}
 use Rattle.mdl_state.specs.State.{Physical, Mem, Item, Old, Walk}
 use Rattle.mdl_state.specs.Bytes.{bytes_of}
-use Rattle.mdl_state.specs.Watches.{unwatched}
+use Rattle.mdl_state.specs.declared.Watch.{Watch}
+use Rattle.mdl_state.specs.Watches.{hits_after, noted, unwatched}
 use Rattle.mdl_state.specs.PageWalk.{page_fault, walk}
 use Rattle.mdl_state.specs.Serving.{Serve, Pick, Policy, Outcome, Passed, Failed, NoStep, on, serve_item, by_pick, by_items, by_list, with_items, from_cache, after_walk}
 use Rattle.mdl_state.specs.Accesses.{translated, got, held_at, read_at, written_at, bytes_here}
 use Rattle.mdl_state.specs.Attempt.{Plan, Done, Fail, Load, Store, Translate, Get, Hold, Input, tried}
 use Rattle.mdl_state.specs.Ends.{Ends}
-use Rattle.mdl_cpu.specs.Deliveries.{IsSerious, Serious, IfFailed, IsStep, RaisesPageFaults, ServesAll}
+use Rattle.mdl_cpu.specs.Deliveries.{Serious, IfFailed, IsStep, RaisesPageFaults, ServesAll, KeepsWatch}
 
 -- ---- a way of serving raises page faults alone
 
@@ -150,3 +152,82 @@ module _ (serve : Serve) (serves : ServesAll serve) where
   tried_steps given (Get place size k) m = tried_steps given (k (got m place size)) m
   tried_steps given (Hold place size value k) m = tried_steps given k (held_at m place size value)
   tried_steps given (Input port size k) m = tried_steps given (k given) m
+
+-- ---- what stands beside the contents of memory
+
+pub then_kept : {o m n : Mem} → KeepsWatch o m → KeepsWatch m n → KeepsWatch o n
+then_kept {o} {m} {n} first second = record {
+  served = second.served ∙ first.served;
+  watch = second.watch ∙ first.watch;
+  hits = λ none. second.hits (first.watch ∙ none) ∙ first.hits none;
+}
+
+-- what comes of a part leaves it
+record Kept {R : Type 0} (m : Mem) (w : R × Mem) : Type 0 where
+  pub keeps : KeepsWatch m w.1
+
+stays_kept : {R : Type 0} (m : Mem) (x : R) → Kept m (x, m)
+stays_kept m x = record { keeps = record { served = refl; watch = refl; hits = λ _. refl } }
+
+on_kept : {A B : Type 0} (m : Mem) (w : Outcome A × Mem) (k : A → Mem → Outcome B × Mem) → Kept m w → ((x : A) (n : Mem) → Kept n (k x n)) → Kept m (on w k)
+on_kept m (Passed x, n) k p h = record { keeps = then_kept p.keeps (h x n).keeps }
+on_kept m (Failed fault, n) k p h = record { keeps = p.keeps }
+on_kept m (NoStep, n) k p h = record { keeps = p.keeps }
+
+if_kept : {R : Type 0} (m : Mem) (b : Bool) (x y : R × Mem) → Kept m x → Kept m y → Kept m (if b then x else y)
+if_kept m true x y p q = p
+if_kept m false x y p q = q
+
+after_kept : (m : Mem) (page : ℕ) (dropped : List ℕ) (w : Result Entry Fault × Physical) → Kept m (after_walk m page dropped w)
+after_kept m page dropped (Ok entry, p) = record { keeps = record { served = refl; watch = refl; hits = λ _. refl } }
+after_kept m page dropped (Err fault, p) = record { keeps = record { served = refl; watch = refl; hits = λ _. refl } }
+
+cache_kept : (m : Mem) (o : Option Entry) → Kept m (from_cache m o)
+cache_kept m (Some entry) = stays_kept m _
+cache_kept m None = stays_kept m _
+
+item_kept : (i : Item) (m : Mem) (lin : ℕ) (access : Access) → Kept m (serve_item i m lin access)
+unfolding serve_item
+item_kept Old m lin access = cache_kept m _
+item_kept (Walk dropped) m lin access = after_kept m _ dropped (walk m.physical m.cr3 lin access)
+
+none_met : (ws : List Watch) (lin : ℕ) (size : Size) (access : Access) (hits : ℕ) → ws ≡ [] → hits_after ws lin size access hits ≡ hits
+none_met ws lin size access hits none = rw none refl
+
+noted_kept : {R : Type 0} (m : Mem) (lin : ℕ) (size : Size) (access : Access) (x : R) → Kept m (x, noted m lin size access)
+noted_kept m lin size access x = record { keeps = record { served = refl; watch = refl; hits = λ none. none_met m.watch lin size access m.hits none } }
+
+held_kept : {R : Type 0} (m : Mem) (place : Place) (size : Size) (value : ℕ) (x : R) → Kept m (x, held_at m place size value)
+held_kept m place size value x = record { keeps = record { served = refl; watch = refl; hits = λ _. refl } }
+
+module _ (pick : Pick) where
+  translated_kept : (m : Mem) (lin : ℕ) (size : Size) (access : Access) → Kept m (translated (by_pick pick) m lin size access)
+  unfolding translated
+  translated_kept m lin size access = if_kept m (not m.paging) _ _ (noted_kept m lin size access _)
+      (on_kept m (by_pick pick m lin access) _ (item_kept (pick (unwatched m) lin access) m lin access) (λ one n.
+      if_kept n (bytes_here lin size == bytes_of size) _ _ (noted_kept n lin size access _)
+      (on_kept n (by_pick pick n ((lin + bytes_here lin size) % 2 ^ 32) access) _ (item_kept (pick (unwatched n) ((lin + bytes_here lin size) % 2 ^ 32) access) n _ access) (λ two o.
+      noted_kept o lin size access _))))
+
+  read_kept : (m : Mem) (lin : ℕ) (size : Size) (who : Who) → Kept m (read_at (by_pick pick) m lin size who)
+  unfolding read_at
+  read_kept m lin size who = on_kept m (translated (by_pick pick) m lin size (Read who)) _ (translated_kept m lin size (Read who)) (λ place n. stays_kept n _)
+
+  written_kept : (m : Mem) (lin : ℕ) (size : Size) (value : ℕ) (who : Who) → Kept m (written_at (by_pick pick) m lin size value who)
+  unfolding written_at
+  written_kept m lin size value who = on_kept m (translated (by_pick pick) m lin size (Write who)) _ (translated_kept m lin size (Write who)) (λ place n. held_kept n place size value _)
+
+  plan_kept : {A : Type 0} (given : ℕ) (plan : Plan A) (m : Mem) → Kept m (tried (by_pick pick) given plan m)
+  plan_kept given (Done x) m = stays_kept m _
+  plan_kept given (Fail fault) m = stays_kept m _
+  plan_kept given (Load lin size who k) m = on_kept m (read_at (by_pick pick) m lin size who) _ (read_kept m lin size who) (λ value n. plan_kept given (k value) n)
+  plan_kept given (Store lin size value who k) m = on_kept m (written_at (by_pick pick) m lin size value who) _ (written_kept m lin size value who) (λ _ n. plan_kept given k n)
+  plan_kept given (Translate lin size access k) m = on_kept m (translated (by_pick pick) m lin size access) _ (translated_kept m lin size access) (λ place n. plan_kept given (k place) n)
+  plan_kept given (Get place size k) m = plan_kept given (k (got m place size)) m
+  plan_kept given (Hold place size value k) m = let t = plan_kept given k (held_at m place size value) in
+      record { keeps = record { served = t.keeps.served; watch = t.keeps.watch; hits = t.keeps.hits } }
+  plan_kept given (Input port size k) m = plan_kept given (k given) m
+
+  -- a plan by a rule leaves it
+  pub tried_keeps : {A : Type 0} (given : ℕ) (plan : Plan A) (m : Mem) → KeepsWatch m (tried (by_pick pick) given plan m).1
+  tried_keeps given plan m = (plan_kept given plan m).keeps

@@ -1,5 +1,5 @@
--- What is promised of deliveries: which faults arise in one, and what pages are served by.
-use Rattle.std.specs.Prelude.{◌≡◌, ℕ, zero, suc, ◌+◌, ◌<◌, refl, Option, Some, None}
+-- What is promised of deliveries: which faults arise in one, how pages are served, and what of memory stays.
+use Rattle.std.specs.Prelude.{◌≡◌, ℕ, []}
 use Rattle.mdl_state.specs.declared.Access.{Access}
 use Rattle.mdl_state.specs.declared.Fault.{Fault}
 use Rattle.mdl_state.specs.State.{Mem}
@@ -8,14 +8,7 @@ use Rattle.mdl_cpu.specs.declared.Class.{Class}
 use Rattle.mdl_cpu.specs.declared.Class.TheVariants.{Benign, Contributory, PageFault, DoubleFault}
 use Rattle.mdl_cpu.specs.DoubleFault.{class_of_fault}
 
--- how many deliveries may follow that of a cause: a page fault after a contributory fault, and a double fault
--- after either
-abbrev pub rank_of : Class → ℕ
-rank_of Benign = 3
-rank_of Contributory = 2
-rank_of PageFault = 1
-rank_of DoubleFault = 0
-
+-- not benign
 abbrev pub IsSerious : Class → Type 0
 IsSerious Benign = ⊥
 IsSerious Contributory = Unit {0}
@@ -44,3 +37,9 @@ pub record RaisesPageFaults (serve : Serve) : Type 0 where
 -- and serves each page, or raises its fault
 pub record ServesAll (serve : Serve) : Type 0 where
   pub each : (m : Mem) (lin : ℕ) (access : Access) → IsStep (serve m lin access).0
+
+-- The items that are left and the breakpoints stay, and where no breakpoint is looked for none is met.
+pub record KeepsWatch (old new : Mem) : Type 0 where
+  pub served : new.served ≡ old.served
+  pub watch : new.watch ≡ old.watch
+  pub hits : old.watch ≡ [] → new.hits ≡ old.hits

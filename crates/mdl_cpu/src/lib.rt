@@ -9,7 +9,10 @@
 
 mod laws;
 
-pub use laws::operands_address_by_registers;
+pub use laws::{
+    a_delivery_is_some_choice, a_refused_delivery_leaves_memory, no_delivery_needs_a_fifth,
+    operands_address_by_registers,
+};
 use mdl_state::Fault;
 
 /// A descriptor: its two doublewords as they were read, the linear address of the first, and the
