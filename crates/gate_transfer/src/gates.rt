@@ -7,11 +7,12 @@ ghost use Rattle.mdl_state.specs.Attempt.{tried};
 ghost use Rattle.mdl_cpu.specs.declared.Outcome.TheVariants.{Done};
 ghost use Rattle.mdl_cpu.specs.Segments.{has_protection};
 ghost use Rattle.mdl_cpu.specs.Steady.{Steady};
+ghost use Rattle.mdl_cpu.specs.Deliveries.{KeepsWatch};
 ghost use Rattle.mdl_cpu.specs.Faults.{extended, first_of};
 ghost use Rattle.mdl_cpu.specs.Loads.{answered};
 ghost use Rattle.mdl_cpu.specs.Causes.{saved_eip};
 ghost use Rattle.mdl_cpu.specs.Gates.{entry_rows, handler_flags, at_handler, frame_plan, gate_plan, with_ext};
-ghost use Rattle.gate_transfer.specs.Ways.{transferred};
+ghost use Rattle.gate_transfer.specs.Ways.{arrived};
 
 use mdl_cpu::{Cause, Outcome};
 use mdl_num::with_bit;
@@ -21,7 +22,9 @@ use seg_unit::{push, segment, set_segment};
 
 /// The places of TF, IF and RF in EFLAGS.
 const TF: u8 = 8;
+
 const IF: u8 = 9;
+
 const RF: u8 = 16;
 
 /// The fault of an entry that the table does not have, as real mode knows it.
@@ -30,7 +33,6 @@ const DOUBLE_FAULT: Fault = Fault {
     code: 0,
     addr: 0,
 };
-
 
 /// EXT in the code of a fault that comes on the way of an external cause.
 fn extended(external: bool, fault: Fault) -> Fault
@@ -131,18 +133,15 @@ fn enter<L: Linear>(regs: &mut Regs, lin: &mut L, cause: Cause) -> Result<(), Fa
 /// its vector in CS:IP. It is made, or it is refused with a fault and leaves the registers.
 ///
 /// Its writes stay held: the caller commits them, or discards them at a fault.
-pub fn through_gate<L: Linear>(
-    regs: &mut Regs,
-    lin: &mut L,
-    cause: Cause,
-) -> Result<Outcome, Fault>
+pub fn through_gate<L: Linear>(regs: &mut Regs, lin: &mut L, cause: Cause) -> Result<Outcome, Fault>
     requires mode { has_protection regs.old ≡ false }
     requires held { (L.seen lin.old).held ≡ [] }
-    ensures run { (transferred result regs.new, L.seen lin.new)
+    ensures run { (arrived result regs.new, L.seen lin.new)
         ≡ with_ext cause.ext (tried (by_pick L.pick) 0 (gate_plan cause regs.old) (L.seen lin.old)) }
     ensures way { IfOk result (λ way. way ≡ Done) }
     ensures unchanged { OnErr result (regs.new ≡ regs.old) }
     ensures keeps { Keeps (L.seen lin.old) (L.seen lin.new) }
+    ensures watch { KeepsWatch (L.seen lin.old) (L.seen lin.new) }
     ensures steady { Steady regs.old regs.new }
 {
     match enter(regs, lin, cause) {
