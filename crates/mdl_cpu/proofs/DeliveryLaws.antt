@@ -1,5 +1,5 @@
 -- Deliveries: why four are enough, and what serves one by a rule.
-use Rattle.std.proofs.Common.{◌≡◌, ◌<◌, ◌≤◌, ℕ, zero, suc, ◌+◌, Bool, true, false, not, refl, ap, ◌∙◌, arith, [], Option, Some, None}
+use Rattle.std.proofs.Common.{◌≡◌, ◌<◌, ◌≤◌, ℕ, zero, suc, ◌+◌, Bool, true, false, not, refl, ap, sym, ◌∙◌, arith, [], Option, Some, None}
 use Rattle.std.specs.Prelude.{◌==◌, ◌&&◌, ◌-◌, ◌%◌, if◌then◌else◌, IfSome}
 use Rattle.mdl_state.specs.declared.Regs.{Regs}
 use Rattle.mdl_state.specs.declared.Fault.{Fault}
@@ -115,6 +115,12 @@ unfolding deliver
 no_fifth serve raises zero cause r m = refl
 no_fifth serve raises (suc n) cause r m = let e : 4 + suc n ≡ suc (4 + n) = omega arith in rw e (one_more serve raises (4 + n) cause r m (more_below (class_of cause) n) ∙ no_fifth serve raises n cause r m)
 
+-- AGAIN: so a delivery is one delivery, and behind the fault of that a delivery.
+pub again : (serve : Serve) → RaisesPageFaults serve → (cause : Cause) (r : Regs) (m : Mem)
+    → deliver serve cause r m ≡ handled (delivered_once serve cause r m) (λ q n. (Passed (running q), n)) (λ fault n. followed_by (combine cause fault) r n (deliver serve))
+unfolding deliver deliveries
+again serve raises cause r m = sym (no_fifth serve raises 1 cause r m)
+
 -- ---- there is a delivery
 
 followed_steps : (n a : ℕ) (o : Option Fault) (r : Regs) (m : Mem) (x : Cause → Regs → Mem → Outcome Arrival × Mem)
@@ -220,4 +226,3 @@ pub once_restarts : (serve : Serve) → OnlyMarks serve → (cause : Cause) (r :
 unfolding delivered_once
 once_restarts serve marks cause r m f = once_bare cause.ext m (tried serve 0 (gate_plan cause r) m) (tried_bare serve marks 0 (gate_plan cause r) m) f
 
-pub ruleset fifth = (no_fifth, always_arrives, by_pick_raises, by_list_raises)
