@@ -1,12 +1,13 @@
 //! Deliveries, one after another.
 
-ghost use Rattle.std.specs.Prelude.{◌≡◌, false, [], OnErr};
+ghost use Rattle.std.specs.Prelude.{◌≡◌, false, [], IfErr, OnErr};
 ghost use Rattle.mdl_state.specs.Serving.{Passed, by_pick};
 ghost use Rattle.mdl_state.specs.Accesses.{Keeps};
 ghost use Rattle.mdl_cpu.specs.Segments.{has_protection};
 ghost use Rattle.mdl_cpu.specs.Steady.{Steady};
+ghost use Rattle.mdl_cpu.specs.Loads.{answered};
 ghost use Rattle.mdl_cpu.specs.Delivery.{delivered_once, deliver};
-ghost use Rattle.gate_transfer.specs.Ways.{transferred};
+ghost use Rattle.mdl_cpu.specs.Deliveries.{Serious, KeepsWatch};
 ghost use Rattle.fault_delivery.specs.Arrivals.{arrival};
 
 use crate::combining::{combine, fault_cause, note_address};
@@ -24,9 +25,9 @@ pub enum Delivered {
     Shutdown,
 }
 
-/// One delivery, committed, or the fault that it raises.
+/// One attempt at a delivery, committed or discarded.
 #[tactic(auto, unfolding(mdl_cpu::specs::Delivery::delivered_once))]
-fn deliver_once<L: Linear>(regs: &mut Regs, lin: &mut L, cause: Cause) -> Result<(), Fault>
+fn attempt<L: Linear>(regs: &mut Regs, lin: &mut L, cause: Cause) -> Result<(), Fault>
     requires mode { has_protection regs.old ≡ false }
     requires held { (L.seen lin.old).held ≡ [] }
     ensures run { (answered result regs.new, L.seen lin.new)
@@ -58,12 +59,13 @@ pub fn deliver<L: Linear>(regs: &mut Regs, lin: &mut L, cause: Cause) -> Deliver
     ensures run { (Passed (arrival result regs.new), L.seen lin.new)
         ≡ deliver (by_pick L.pick) cause regs.old (L.seen lin.old) }
     ensures keeps { Keeps (L.seen lin.old) (L.seen lin.new) }
+    ensures watch { KeepsWatch (L.seen lin.old) (L.seen lin.new) }
     ensures held { (L.seen lin.new).held ≡ [] }
     ensures steady { Steady regs.old regs.new }
 {
     let mut next = cause;
     loop {
-        let Err(fault) = deliver_once(regs, lin, next) else {
+        let Err(fault) = attempt(regs, lin, next) else {
             return Delivered::Done(false);
         };
         let Some(fault) = combine(next, fault) else {

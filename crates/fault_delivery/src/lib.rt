@@ -7,5 +7,6 @@
 mod combining;
 mod deliveries;
 
+pub use combining::{fault_cause, note_address};
 pub use deliveries::{Delivered, deliver};
 pub use mdl_cpu::Cause;
