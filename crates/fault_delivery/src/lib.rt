@@ -10,3 +10,6 @@ mod deliveries;
 pub use combining::{fault_cause, note_address};
 pub use deliveries::{Delivered, deliver};
 pub use mdl_cpu::Cause;
+
+#[cfg(test)]
+mod tests;
