@@ -1,12 +1,14 @@
-//! The string instructions, one iteration a call: MOVS, CMPS, STOS, LODS and SCAS.
+//! The string instructions, one iteration a call: MOVS, CMPS, STOS, LODS, SCAS, INS and OUTS.
 //!
-//! The one contract used above is `run`: over any memory it does what the written machine says of
-//! the instruction, of a repeated one up to where an interrupt may come. The status flags stand
-//! apart from EFLAGS, in a keeper. Read `StringEffects.antt` of `mdl_step` first.
+//! The one contract used above is `run`: over any memory and any ports it does what the written
+//! machine says of the instruction, of a repeated one up to where an interrupt may come. The status
+//! flags stand apart from EFLAGS, in a keeper. Read `StringEffects.antt` of `mdl_effect` first.
 #![tactic(auto)]
 
 mod indexes;
 mod instructions;
+mod iterations;
+mod port_strings;
 mod repeats;
 mod strings;
 

@@ -1,19 +1,23 @@
 //! Repeats: the count, and what ends them.
 
-ghost use Rattle.std.specs.Prelude.{◌≡◌, true, OnErr};
+ghost use Rattle.std.specs.Prelude.{◌≡◌, ℕ, true, OnErr};
+ghost use Rattle.mdl_state.specs.declared.Next.{Next};
 ghost use Rattle.mdl_state.specs.Serving.{by_pick};
 ghost use Rattle.mdl_state.specs.Accesses.{Keeps, HasRoom};
 ghost use Rattle.mdl_state.specs.Attempt.{tried};
 ghost use Rattle.mdl_insn.specs.declared.instruction.Rep.TheVariants.{Equal};
-ghost use Rattle.mdl_effect.specs.StringEffects.{runs_string, compares, is_wanted, goes_on, repeating};
-ghost use Rattle.operands.specs.Whole.{whole, ran, KeepsOther};
+ghost use Rattle.mem_iface.specs.Rules.{rules_of};
+ghost use Rattle.mdl_effect.specs.Operands.{PortUse};
+ghost use Rattle.mdl_effect.specs.Ports.{Accesses};
+ghost use Rattle.mdl_effect.specs.StringEffects.{runs_string, compares, is_wanted, goes_on, counted_after, repeating};
+ghost use Rattle.operands.specs.Whole.{whole, ran_at, KeepsOther};
 
-use crate::strings::iterate;
+use crate::iterations::iterate;
 use lazy_flags::Flags;
 use mdl_insn::{Insn, Op, Rep};
 use mdl_num::ZF;
 use mdl_state::{Fault, Next, Regs};
-use mem_iface::Linear;
+use mem_iface::{Linear, Ports};
 use operands::{count_down, count_of};
 
 /// Whether the instruction compares.
@@ -47,31 +51,42 @@ fn goes_on(regs: &Regs, flags: &Flags, insn: &Insn) -> bool
     !compares(insn.op) || is_wanted(insn.rep, flags.get(ZF))
 }
 
+/// Counts an iteration, and says whether EIP stays at the instruction.
+fn count(regs: &mut Regs, flags: &Flags, insn: &Insn) -> Next
+    ensures value { (next : Next) (access : PortUse) →
+        (record { regs = whole regs.new flags.now; next = result; access = access })
+        ≡ counted_after insn.now (record { regs = whole regs.old flags.now; next = next; access = access }) }
+    ensures kept { KeepsOther regs.old regs.new }
+{
+    count_down(regs, insn.wide);
+    if goes_on(regs, flags, insn) {
+        Next::Again
+    } else {
+        Next::Follow
+    }
+}
+
 /// One iteration of an instruction with a repeat prefix, unless the count is 0.
 // `Equal` stands for either prefix; which one it is counts in `goes_on` alone.
-#[tactic(auto, using(mdl_state::specs::Rules::attempts))]
-pub(crate) fn repeat<L: Linear>(
+pub(crate) fn repeat<L: Linear, P: Ports>(
     regs: &mut Regs,
     flags: &mut Flags,
     lin: &mut L,
+    ports: &mut P,
     insn: &Insn,
 ) -> Result<Next, Fault>
     requires runs { runs_string insn.now.op ≡ true }
     requires room { HasRoom (L.seen lin.old) 4 }
-    ensures run { (ran result (whole regs.new flags.new), L.seen lin.new)
-        ≡ tried (by_pick L.pick) 0 (repeating Equal insn.now (whole regs.old flags.old) (whole regs.new flags.new).eflags) (L.seen lin.old) }
+    ensures run { (given : ℕ) × (access : PortUse) × Accesses (rules_of P.Ports) access given ports.old ports.new
+        × ((ran_at result access (whole regs.new flags.new), L.seen lin.new)
+        ≡ tried (by_pick L.pick) given (repeating Equal insn.now (whole regs.old flags.old) (whole regs.new flags.new).eflags) (L.seen lin.old)) }
     ensures kept { KeepsOther regs.old regs.new }
-    ensures unchanged { OnErr result ((regs.new ≡ regs.old) × (flags.new ≡ flags.old)) }
+    ensures unchanged { OnErr result ((regs.new ≡ regs.old) × (flags.new ≡ flags.old) × (ports.new ≡ ports.old)) }
     ensures keeps { Keeps (L.seen lin.old) (L.seen lin.new) }
 {
     if count_of(regs, insn.wide) == 0 {
         return Ok(Next::Follow);
     }
-    iterate(regs, flags, lin, insn)?;
-    count_down(regs, insn.wide);
-    if goes_on(regs, flags, insn) {
-        Ok(Next::Again)
-    } else {
-        Ok(Next::Follow)
-    }
+    iterate(regs, flags, lin, ports, insn)?;
+    Ok(count(regs, flags, insn))
 }

@@ -1,7 +1,7 @@
-//! One iteration of each string instruction. The source is in DS or the segment of a prefix, the
-//! destination in ES. Registers and flags change behind the last access.
+//! One iteration of each string instruction between registers and memory. The source is in DS or the
+//! segment of a prefix, the destination in ES. Registers and flags change behind the last access.
 
-ghost use Rattle.std.specs.Prelude.{◌≡◌, ◌<◌, ℕ, true, IfOk, OnErr};
+ghost use Rattle.std.specs.Prelude.{◌≡◌, ◌<◌, ℕ, true, false, IfOk, OnErr};
 ghost use Rattle.mdl_state.specs.declared.Regs.{Regs};
 ghost use Rattle.mdl_state.specs.Bytes.{bound_of};
 ghost use Rattle.mdl_state.specs.Serving.{by_pick, outcome};
@@ -11,7 +11,8 @@ ghost use Rattle.mdl_cpu.specs.Loads.{answered};
 ghost use Rattle.mdl_effect.specs.StringEffects.{read_source, read_destination, write_destination, compared};
 ghost use Rattle.mdl_effect.specs.StringEffects.{move_string_plan, compare_strings_plan, store_string_plan, load_string_plan, scan_string_plan, iterate_plan};
 ghost use Rattle.mdl_effect.specs.StringEffects.{runs_string};
-ghost use Rattle.operands.specs.Whole.{whole, KeepsOther};
+ghost use Rattle.operands.specs.Whole.{whole, after, KeepsOther};
+ghost use Rattle.string_ops.specs.PortStrings.{uses_port};
 
 use crate::indexes::{destination_index, pass_both, pass_destination, pass_source, source_index};
 use lazy_flags::{FlagOp, Flags};
@@ -21,7 +22,7 @@ use mem_iface::Linear;
 use operands::{ACCUMULATOR, load, reg, set_reg, store};
 
 /// The number at the source.
-fn read_source<L: Linear>(regs: &Regs, lin: &mut L, insn: &Insn) -> Result<u32, Fault>
+pub(crate) fn read_source<L: Linear>(regs: &Regs, lin: &mut L, insn: &Insn) -> Result<u32, Fault>
     ensures run { (flags : ℕ) → (outcome result, L.seen lin.new)
         ≡ tried (by_pick L.pick) 0 (read_source insn.now (whole regs.now flags)) (L.seen lin.old) }
     ensures bound { IfOk result (λ value. value < bound_of insn.now.size) }
@@ -160,17 +161,18 @@ fn scan_string<L: Linear>(
     Ok(())
 }
 
-/// One iteration of the instruction by its mnemonic.
-#[tactic(auto, unfolding(mdl_effect::specs::StringEffects::iterate_plan))]
-pub(crate) fn iterate<L: Linear>(
+/// One iteration of an instruction that uses no port, by its mnemonic.
+#[tactic(auto, using(mdl_state::specs::Rules::attempts), unfolding(mdl_effect::specs::StringEffects::iterate_plan))]
+pub(crate) fn iterate_in_memory<L: Linear>(
     regs: &mut Regs,
     flags: &mut Flags,
     lin: &mut L,
     insn: &Insn,
 ) -> Result<(), Fault>
     requires runs { runs_string insn.now.op ≡ true }
+    requires memory { uses_port insn.now.op ≡ false }
     requires room { HasRoom (L.seen lin.old) 4 }
-    ensures run { (answered result (whole regs.new flags.new), L.seen lin.new)
+    ensures run { (after result (whole regs.new flags.new), L.seen lin.new)
         ≡ tried (by_pick L.pick) 0 (iterate_plan insn.now (whole regs.old flags.old) (whole regs.new flags.new).eflags) (L.seen lin.old) }
     ensures kept { KeepsOther regs.old regs.new }
     ensures unchanged { OnErr result ((regs.new ≡ regs.old) × (flags.new ≡ flags.old)) }
