@@ -1,0 +1,2 @@
+pub mod WholeOwn
+pub mod Outcomes
