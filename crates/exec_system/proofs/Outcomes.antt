@@ -1,6 +1,6 @@
 -- What an instruction comes to, with the port that it uses.
 use Rattle.std.proofs.Common.{◌≡◌, ℕ, refl, ap}
-use Rattle.std.specs.Prelude.{Result, Ok, Err, OnErr}
+use Rattle.std.specs.Prelude.{Result, Ok, Err, IfOk, OnErr}
 use Rattle.mdl_state.specs.declared.Regs.{Regs}
 use Rattle.mdl_state.specs.declared.Fault.{Fault}
 use Rattle.mdl_state.specs.declared.Next.{Next}
@@ -17,7 +17,7 @@ use Rattle.mdl_cpu.specs.Steady.{IsSound}
 use Rattle.mdl_effect.specs.Operands.{NoPort, Reads, Writes, value_of}
 use Rattle.mdl_effect.specs.PortEffects.{in_plan, out_plan}
 use Rattle.mdl_effect.specs.SystemEffects.{system_by, system_effect}
-use Rattle.mdl_effect.specs.Ways.{LeavesSound}
+use Rattle.mdl_effect.specs.Ways.{LeavesTo, LeavesSound}
 use Rattle.operands.specs.Whole.{ran, ran_at}
 
 pub no_port : (result : Result Next Fault) (r : Regs) → ran_at result NoPort r ≡ ran result r
@@ -39,3 +39,8 @@ out_ran insn r back serve given m e = ap (λ (op : Op). tried serve given (syste
 pub sound_ran : (result : Result Next Fault) (old new : Regs) → IfPassed (LeavesSound old) (ran result new) → OnErr result (new ≡ old) → IsSound old → IsSound new
 sound_ran (Ok next) old new passed same sound = passed.0 sound
 sound_ran (Err fault) old new passed same sound = rw same sound
+
+-- what follows where an attempt passes
+pub follows_ran : (result : Result Next Fault) (old new : Regs) → IfPassed (LeavesSound old) (ran result new) → IfOk result (λ next. LeavesTo next old new)
+follows_ran (Ok next) old new passed = passed.1
+follows_ran (Err fault) old new passed = tt

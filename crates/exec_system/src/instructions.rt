@@ -1,6 +1,6 @@
 //! One instruction, by its mnemonic.
 
-ghost use Rattle.std.specs.Prelude.{◌≡◌, Bool, List, ℕ, IsTrue, true, false, OnErr};
+ghost use Rattle.std.specs.Prelude.{◌≡◌, Bool, List, ℕ, IsTrue, true, false, IfOk, OnErr};
 ghost use Rattle.mdl_insn.specs.Spelling.{Spelt};
 ghost use Rattle.mdl_state.specs.Serving.{by_pick};
 ghost use Rattle.mdl_state.specs.Accesses.{Keeps, HasRoom};
@@ -9,10 +9,13 @@ ghost use Rattle.mdl_cpu.specs.Addresses.{HasAddress};
 ghost use Rattle.mdl_cpu.specs.Steady.{IsSound};
 ghost use Rattle.mdl_effect.specs.DataEffects.{is_special};
 ghost use Rattle.mdl_effect.specs.SystemEffects.{is_system, is_protected_only, is_mov, runs_system, system_effect};
+ghost use Rattle.mdl_effect.specs.Operands.{PortUse};
+ghost use Rattle.mdl_effect.specs.Ports.{Accesses};
 ghost use Rattle.mdl_effect.specs.Forms.{IsFormed};
+ghost use Rattle.mdl_effect.specs.Ways.{LeavesTo};
 ghost use Rattle.mem_iface.specs.Rules.{rules_of};
-ghost use Rattle.operands.specs.Whole.{ran};
-ghost use Rattle.exec_system.specs.Board.{uses_port, writes_port, Uses};
+ghost use Rattle.operands.specs.Whole.{ran, ran_at};
+ghost use Rattle.exec_system.specs.Board.{uses_port, writes_port};
 
 use crate::control::move_special;
 use crate::coprocessor::{escape, wait};
@@ -130,10 +133,11 @@ pub fn run<L: Linear, P: Ports>(
     requires spelt { (bytes : List ℕ) × (big : Bool) × Spelt bytes big insn.now }
     requires runs { IsTrue (runs_system insn.now) }
     requires room { HasRoom (L.seen lin.old) 6 }
-    ensures run { Uses (rules_of P.Ports) (by_pick L.pick) (system_effect insn.now regs.old back) result regs.new
-        (L.seen lin.old) (L.seen lin.new) ports.old ports.new }
+    ensures run { (given : ℕ) × (access : PortUse) × Accesses (rules_of P.Ports) access given ports.old ports.new
+        × ((ran_at result access regs.new, L.seen lin.new) ≡ tried (by_pick L.pick) given (system_effect insn.now regs.old back) (L.seen lin.old)) }
     ensures unchanged { OnErr result ((regs.new ≡ regs.old) × (ports.new ≡ ports.old)) }
     ensures sound { IsSound regs.old → IsSound regs.new }
+    ensures follows { IfOk result (λ next. LeavesTo next regs.old regs.new) }
     ensures keeps { Keeps (L.seen lin.old) (L.seen lin.new) }
     ensures a20 { writes_port insn.now.op ≡ false → P.gate ports.new ≡ P.gate ports.old }
     ensures reset { writes_port insn.now.op ≡ false → P.asks ports.new ≡ P.asks ports.old }
