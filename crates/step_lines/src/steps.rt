@@ -81,6 +81,7 @@ fn set_mode(regs: &mut Regs, family: Family, big: bool)
 }
 
 /// A far instruction, which has EFLAGS whole.
+#[tactic(auto, using(crate::proofs::Packed::packed))]
 fn run_far<L: Linear>(
     regs: &mut Regs,
     flags: &mut Flags,
