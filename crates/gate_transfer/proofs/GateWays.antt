@@ -1,5 +1,5 @@
 -- What the way to a handler leaves of registers and of memory.
-use Rattle.std.proofs.Common.{◌≡◌, refl, ap, subst, sym}
+use Rattle.std.proofs.Common.{◌≡◌, refl, subst, sym}
 use Rattle.std.specs.Prelude.{Result, Ok, Err, OnErr}
 use Rattle.mdl_state.specs.declared.Regs.{Regs}
 use Rattle.mdl_state.specs.declared.Fault.{Fault}

@@ -14,11 +14,12 @@ ghost use Rattle.mdl_cpu.specs.Causes.{saved_eip};
 ghost use Rattle.mdl_cpu.specs.Gates.{entry_rows, handler_flags, at_handler, frame_plan, gate_plan, with_ext};
 ghost use Rattle.gate_transfer.specs.Ways.{arrived};
 
+use crate::code::set_code_selector;
 use mdl_cpu::{Cause, Outcome};
 use mdl_num::with_bit;
-use mdl_state::{Fault, Hidden, Regs, Seg, Size, Who};
+use mdl_state::{Fault, Regs, Seg, Size, Who};
 use mem_iface::Linear;
-use seg_unit::{push, segment, set_segment};
+use seg_unit::{push, segment};
 
 /// The places of TF, IF and RF in EFLAGS.
 const TF: u8 = 8;
@@ -95,18 +96,12 @@ fn push_frame<L: Linear>(regs: &mut Regs, lin: &mut L, cause: Cause) -> Result<(
 }
 
 /// The registers turned to the handler.
-#[tactic(auto, unfolding(mdl_cpu::specs::Loads::with_selector))]
 fn turn_to(regs: &mut Regs, cause: Cause, ip: u32, sel: u16)
     ensures { regs.new ≡ at_handler cause regs.old ip sel }
 {
     regs.eip = ip;
     regs.eflags = handler_flags(cause, regs.eflags);
-    let hidden = Hidden {
-        sel,
-        base: 16 * sel as u32,
-        ..segment(regs, Seg::Cs)
-    };
-    set_segment(regs, Seg::Cs, hidden);
+    set_code_selector(regs, sel);
 }
 
 /// The whole way, with the code of a fault as the rows have it.
