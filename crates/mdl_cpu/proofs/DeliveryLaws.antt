@@ -225,4 +225,3 @@ pub once_restarts : (serve : Serve) → OnlyMarks serve → (cause : Cause) (r :
     → (bare (delivered_once serve cause r m).1 ≡ bare m) × ((delivered_once serve cause r m).1.held ≡ [])
 unfolding delivered_once
 once_restarts serve marks cause r m f = once_bare cause.ext m (tried serve 0 (gate_plan cause r) m) (tried_bare serve marks 0 (gate_plan cause r) m) f
-

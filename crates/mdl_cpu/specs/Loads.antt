@@ -56,9 +56,9 @@ stack_fault sel = fault_at 12 sel
 abbrev pub data_rows : ℕ → ℕ → ℕ → Desc → List Row
 data_rows wrong cpl sel d =
     row (not (is_data d || is_readable_code d)) (fault_at wrong sel)
-  ∷ row (is_beyond cpl sel d) (fault_at wrong sel)
-  ∷ row (not (is_present d)) (not_present sel)
-  ∷ []
+    ∷ row (is_beyond cpl sel d) (fault_at wrong sel)
+    ∷ row (not (is_present d)) (not_present sel)
+    ∷ []
 
 unfoldable pub data_plan : ℕ → Regs → Seg → ℕ → Plan Regs
 data_plan wrong r seg sel =
@@ -71,10 +71,10 @@ data_plan wrong r seg sel =
 abbrev pub stack_rows : ℕ → ℕ → ℕ → Desc → List Row
 stack_rows wrong level sel d =
     row (not (rpl sel == level)) (fault_at wrong sel)
-  ∷ row (not (is_writable_data d)) (fault_at wrong sel)
-  ∷ row (not (dpl d == level)) (fault_at wrong sel)
-  ∷ row (not (is_present d)) (stack_fault sel)
-  ∷ []
+    ∷ row (not (is_writable_data d)) (fault_at wrong sel)
+    ∷ row (not (dpl d == level)) (fault_at wrong sel)
+    ∷ row (not (is_present d)) (stack_fault sel)
+    ∷ []
 
 -- its descriptor, tested
 unfoldable pub stack_plan : ℕ → ℕ → Regs → ℕ → Plan Desc
@@ -105,8 +105,8 @@ load_plan r seg sel = load_data_plan r seg sel
 abbrev pub ldt_rows : ℕ → Desc → List Row
 ldt_rows sel d =
     row (not (is_ldt d)) (fault_at 13 sel)
-  ∷ row (not (is_present d)) (not_present sel)
-  ∷ []
+    ∷ row (not (is_present d)) (not_present sel)
+    ∷ []
 
 -- LLDT
 unfoldable pub load_ldt_plan : Regs → ℕ → Plan Regs
@@ -120,8 +120,8 @@ load_ldt_plan r sel =
 abbrev pub task_rows : ℕ → Desc → List Row
 task_rows sel d =
     row (not (is_available_tss d)) (fault_at 13 sel)
-  ∷ row (not (is_present d)) (not_present sel)
-  ∷ []
+    ∷ row (not (is_present d)) (not_present sel)
+    ∷ []
 
 -- LTR: the TSS is then busy
 unfoldable pub load_task_plan : Regs → ℕ → Plan Regs

@@ -29,7 +29,7 @@ pub fn no_delivery_needs_a_fifth()
         → deliveries (4 + n) serve cause r m ≡ deliver serve cause r m }
     ensures again { (serve : Serve) → RaisesPageFaults serve → (cause : Cause) (r : Regs) (m : Mem)
         → deliver serve cause r m ≡ handled (delivered_once serve cause r m) (λ q n. (Passed (running q), n))
-            (λ fault n. followed_by (combine cause fault) r n (deliver serve)) }
+        (λ fault n. followed_by (combine cause fault) r n (deliver serve)) }
     ensures step { (serve : Serve) → RaisesPageFaults serve → ServesAll serve → (cause : Cause) (r : Regs) (m : Mem)
         → IsStep (deliver serve cause r m).0 }
     ensures rules { (pick : Pick) → RaisesPageFaults (by_pick pick) }
