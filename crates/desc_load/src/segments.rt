@@ -1,6 +1,6 @@
 //! Loads of segment registers.
 
-ghost use Rattle.std.specs.Prelude.{◌≡◌, ◌≤◌, ◌+◌, length, OnErr};
+ghost use Rattle.std.specs.Prelude.{◌≡◌, ◌≤◌, ◌+◌, ◌*◌, length, OnErr};
 ghost use Rattle.mdl_state.specs.declared.Seg.TheVariants.{Ss};
 ghost use Rattle.mdl_state.specs.Registers.{with_seg};
 ghost use Rattle.mdl_state.specs.Serving.{by_pick, outcome};
@@ -61,6 +61,13 @@ fn put(regs: &mut Regs, seg: Seg, hidden: Hidden)
     set_segment(regs, seg, hidden);
 }
 
+/// The base of the segment that a selector says by itself.
+fn paragraph(sel: u16) -> u32
+    ensures { result ≡ 16 * sel }
+{
+    16 * sel as u32
+}
+
 /// The load of real mode, of any segment register: the base alone.
 #[tactic(auto, unfolding(mdl_cpu::specs::Loads::with_selector))]
 pub fn load_real(regs: &mut Regs, seg: Seg, sel: u16)
@@ -69,7 +76,7 @@ pub fn load_real(regs: &mut Regs, seg: Seg, sel: u16)
 {
     let hidden = Hidden {
         sel,
-        base: 16 * sel as u32,
+        base: paragraph(sel),
         ..segment(regs, seg)
     };
     put(regs, seg, hidden);
@@ -82,7 +89,7 @@ pub fn load_v86(regs: &mut Regs, seg: Seg, sel: u16)
 {
     let hidden = Hidden {
         sel,
-        base: 16 * sel as u32,
+        base: paragraph(sel),
         limit: VIRTUAL_LIMIT,
         rights: VIRTUAL_RIGHTS,
     };

@@ -1,10 +1,11 @@
 //! Loads of LDTR and of TR.
 
-ghost use Rattle.std.specs.Prelude.{◌≡◌, ◌≤◌, ◌+◌, length, OnErr};
+ghost use Rattle.std.specs.Prelude.{◌≡◌, ◌≤◌, ◌+◌, length, [], ◌∷◌, OnErr};
 ghost use Rattle.mdl_state.specs.Serving.{by_pick};
 ghost use Rattle.mdl_state.specs.Accesses.{Keeps, HasRoom};
 ghost use Rattle.mdl_state.specs.Attempt.{tried};
-ghost use Rattle.mdl_cpu.specs.Faults.{first_of};
+ghost use Rattle.mdl_cpu.specs.Faults.{row, first_of, fault_at};
+ghost use Rattle.mdl_cpu.specs.Descriptors.{in_ldt};
 ghost use Rattle.mdl_cpu.specs.Steady.{Steady};
 ghost use Rattle.mdl_cpu.specs.Loads.{ldt_rows, load_ldt_plan, task_rows, load_task_plan, answered};
 
@@ -26,6 +27,16 @@ const GENERAL_PROTECTION: u8 = 13;
 const LDT: u8 = 2;
 const AVAILABLE_286: u8 = 1;
 const AVAILABLE_386: u8 = 9;
+
+/// LDTR and TR are loaded by selectors of the global table alone.
+fn table_row(sel: u16) -> Result<(), Fault>
+    ensures { result ≡ first_of (row (in_ldt sel) (fault_at 13 sel) ∷ []) }
+{
+    if in_ldt(sel) {
+        return Err(fault_at(GENERAL_PROTECTION, sel));
+    }
+    Ok(())
+}
 
 /// The rows of the descriptor of an LDT.
 fn ldt_rows(desc: &Desc, sel: u16) -> Result<(), Fault>
@@ -53,9 +64,7 @@ pub fn load_ldt<L: Linear>(regs: &mut Regs, lin: &mut L, sel: u16) -> Result<(),
         regs.ldtr = null_segment(sel);
         return Ok(());
     }
-    if in_ldt(sel) {
-        return Err(fault_at(GENERAL_PROTECTION, sel));
-    }
+    table_row(sel)?;
     let desc = fetch_descriptor(regs, lin, sel, GENERAL_PROTECTION)?;
     ldt_rows(&desc, sel)?;
     regs.ldtr = hidden_of(sel, &desc);
@@ -89,9 +98,7 @@ pub fn load_task<L: Linear>(regs: &mut Regs, lin: &mut L, sel: u16) -> Result<()
     if is_null(sel) {
         return Err(fault_at(GENERAL_PROTECTION, 0));
     }
-    if in_ldt(sel) {
-        return Err(fault_at(GENERAL_PROTECTION, sel));
-    }
+    table_row(sel)?;
     let desc = fetch_descriptor(regs, lin, sel, GENERAL_PROTECTION)?;
     task_rows(&desc, sel)?;
     set_busy(lin, &desc)?;
