@@ -1,13 +1,13 @@
 //! Deliveries, one after another.
 
-ghost use Rattle.std.specs.Prelude.{◌≡◌, false, [], IfErr, OnErr};
+ghost use Rattle.std.specs.Prelude.{◌≡◌, false, [], OnErr};
 ghost use Rattle.mdl_state.specs.Serving.{Passed, by_pick};
 ghost use Rattle.mdl_state.specs.Accesses.{Keeps};
 ghost use Rattle.mdl_cpu.specs.Segments.{has_protection};
 ghost use Rattle.mdl_cpu.specs.Steady.{Steady};
 ghost use Rattle.mdl_cpu.specs.Loads.{answered};
 ghost use Rattle.mdl_cpu.specs.Delivery.{delivered_once, deliver};
-ghost use Rattle.mdl_cpu.specs.Deliveries.{Serious, KeepsWatch};
+ghost use Rattle.mdl_cpu.specs.Deliveries.{KeepsWatch};
 ghost use Rattle.fault_delivery.specs.Arrivals.{arrival};
 
 use crate::combining::{combine, fault_cause, note_address};
