@@ -18,8 +18,8 @@ use mdl_insn::Insn;
 use mdl_state::{Fault, Next, Regs};
 use mem_iface::Linear;
 
-/// One data instruction that some bytes spell, in real mode, in an attempt: its registers and held
-/// writes, or its first fault. `back` is the EIP behind it.
+/// One data instruction that some bytes spell, in an attempt: its registers and held writes, or its
+/// first fault. `back` is the EIP behind it.
 ///
 /// The status flags of EFLAGS are those of `flags`. A fault leaves what was held before it to be
 /// dropped.

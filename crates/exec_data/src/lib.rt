@@ -1,10 +1,10 @@
 //! The data instructions: moves, extensions, arithmetic, logic, products, quotients, decimal adjusts,
 //! shifts, rotates, bits, conditions, far pointers, bounds and segment registers.
 //!
-//! The one contract used above is `run`: over any memory, in real mode, it does what the written
-//! machine says of the instruction. `run_plain` does the same where each operand is a register or a
-//! number, and reads no memory. The status flags stand apart from EFLAGS, in a keeper. Read
-//! `Whole.antt` of `operands` first, then `DataEffects.antt` of `mdl_step`.
+//! The one contract used above is `run`: over any memory it does what the written machine says of the
+//! instruction. `run_plain` does the same where each operand is a register or a number, and reads no
+//! memory. The status flags stand apart from EFLAGS, in a keeper. Read `Whole.antt` of `operands`
+//! first, then `DataEffects.antt` of `mdl_effect`.
 #![tactic(auto)]
 
 mod addresses;
