@@ -1,3 +1,4 @@
 pub mod Unpaged
 pub mod EffectLaws
 pub mod StepLaws
+pub mod TurnLaws
