@@ -16,7 +16,7 @@ use Rattle.insn_decode.specs.declared.refusals.Undecoded.TheVariants as causes
 use Rattle.insn_decode.specs.Decoded as decoded
 use Rattle.operands.specs.Whole.{whole}
 use Rattle.cpu_core.specs.Plain.{IsPlain}
-use Rattle.cpu_core.specs.Window.{Window, IsAt}
+use Rattle.cpu_core.specs.Window.{Window, IsAt, fault_of}
 use Rattle.cpu_core.proofs.Windows.{by_window, came_fetched, came_at, cut_fetched, gives_same, came_same}
 
 -- a window that was put at CS:EIP
@@ -78,10 +78,10 @@ module _ {S : Type 0} (pick : Pick) (window : S → Window) (r : Regs) (s e : S)
   }))
 
   -- why there is no instruction, as a fault
-  pub refuses : (cause : Undecoded) → decoded.Refused (by_window pick window) false s cause e → (fault : Fault) × Fetches (by_pick pick) r (window s).mem (Refused fault) (window e).mem
-  refuses causes.Undefined u = (undefined_opcode, undefined u)
-  refuses causes.TooLong u = (general_protection 0, too_long u)
-  refuses (causes.Fetch fault) u = (fault, cut fault u)
+  pub refuses : (cause : Undecoded) → decoded.Refused (by_window pick window) false s cause e → Fetches (by_pick pick) r (window s).mem (Refused (fault_of cause)) (window e).mem
+  refuses causes.Undefined u = undefined u
+  refuses causes.TooLong u = too_long u
+  refuses (causes.Fetch fault) u = cut fault u
 
 module _ {S : Type 0} (pick : Pick) (window : S → Window) (s e : S) (plain : IsPlain (window s).mem) where
   pub takes_same : (insn : Insn) (count : ℕ) → decoded.Takes (by_window pick window) false s insn count e → (window e).mem ≡ (window s).mem

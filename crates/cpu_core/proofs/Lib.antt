@@ -1,8 +1,10 @@
 pub mod Modes
+pub mod Covered
 pub mod Rows
 pub mod Windows
 pub mod Fetched
 pub mod Settled
 pub mod Resumed
-pub mod Steps
-pub mod Ordinary
+pub mod Families
+pub mod Turns
+pub mod Arriving

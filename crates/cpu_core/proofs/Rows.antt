@@ -1,51 +1,52 @@
--- The row of the boundary that is told.
-use Rattle.std.proofs.Common.{◌≡◌, ℕ, ◌||◌, Bool, true, false, refl}
+-- The row of the boundary, by what is told of it.
+use Rattle.std.proofs.Common.{◌≡◌, ℕ, Bool, true, false, refl, sym, ◌∙◌, ap}
 use Rattle.std.specs.Prelude.{if◌then◌else◌}
 use Rattle.mdl_state.specs.declared.Regs.{Regs}
 use Rattle.mdl_state.specs.declared.Latches.{Latches}
-use Rattle.mdl_state.specs.declared.Activity.TheVariants.{Running, Halted}
+use Rattle.mdl_state.specs.declared.Activity.{Activity}
+use Rattle.mdl_state.specs.declared.Activity.TheVariants.{Running, Halted, Shutdown}
+use Rattle.mdl_state.specs.Machine.{Rules, Machine}
 use Rattle.mdl_step.specs.Boundary as rows
-use Rattle.mdl_step.specs.Boundary.{Boundary, takes_trap, takes_break, takes_nmi, takes_line, boundary_rows}
-use Rattle.cpu_core.specs.Rows.{IsDelivery, MayExecute}
+use Rattle.mdl_step.specs.Boundary.{Boundary, takes_trap, takes_break, takes_nmi, takes_line, hits_here, boundary_rows, boundary}
+use Rattle.mdl_step.specs.Step.{is_covered, row_of, UnbuiltBy, IsUnbuilt}
+use Rattle.cpu_core.proofs.Covered.{covered, no_hits}
 
-running_delivers : (trap meets nmi line : Bool) (hits : ℕ) → (trap || nmi || line) ≡ true
-    → IsDelivery (if trap then rows.Trap else if meets then rows.Break hits else if nmi then rows.Nmi else if line then rows.Line else rows.Execute)
-running_delivers true meets nmi line hits e = tt
-running_delivers false true nmi line hits e = tt
-running_delivers false false true line hits e = tt
-running_delivers false false false true hits e = tt
-running_delivers false false false false hits e = absurd cc
+-- a processor that runs is never idle
+busy : (trap meets nmi line : Bool) (hits : ℕ) → (if trap then rows.Trap else if meets then rows.Break hits else if nmi then rows.Nmi else if line then rows.Line else rows.Execute) ≡ rows.Idle → ⊥
+busy true meets nmi line hits e = cc
+busy false true nmi line hits e = cc
+busy false false true line hits e = cc
+busy false false false true hits e = cc
+busy false false false false hits e = cc
 
-running_executes : (trap meets nmi line : Bool) (hits : ℕ) → (trap || nmi || line) ≡ false
-    → MayExecute (if trap then rows.Trap else if meets then rows.Break hits else if nmi then rows.Nmi else if line then rows.Line else rows.Execute)
-running_executes false true false false hits e = tt
-running_executes false false false false hits e = tt
-running_executes true meets nmi line hits e = absurd cc
-running_executes false meets true line hits e = absurd cc
-running_executes false meets false true hits e = absurd cc
+-- breakpoints count for none that is idle
+idles : (activity : Activity) (wants : Bool) (few more : ℕ) (r : Regs) (latches : Latches) → boundary_rows activity wants few r latches ≡ rows.Idle → boundary_rows activity wants more r latches ≡ rows.Idle
+idles Running wants few more r latches e = absurd (busy (takes_trap latches) (takes_break r latches few) (takes_nmi latches) (takes_line wants r latches) few e)
+idles Halted wants few more r latches e = e
+idles Shutdown wants few more r latches e = e
 
-halted_delivers : (trap nmi line : Bool) → (trap || nmi || line) ≡ true → IsDelivery (if trap then rows.Trap else if nmi then rows.Nmi else if line then rows.Line else rows.Idle)
-halted_delivers true nmi line e = tt
-halted_delivers false true line e = tt
-halted_delivers false false true e = tt
-halted_delivers false false false e = absurd cc
+unbuilt_by : (row : Boundary) (r : Regs) → (row ≡ rows.Idle → ⊥) → is_covered r ≡ false → UnbuiltBy row r
+unbuilt_by rows.Idle r h e = absurd (h refl)
+unbuilt_by rows.Trap r h e = e
+unbuilt_by (rows.Break hits) r h e = e
+unbuilt_by rows.Nmi r h e = e
+unbuilt_by rows.Line r h e = e
+unbuilt_by rows.Execute r h e = e
 
-halted_idles : (trap nmi line : Bool) → (trap || nmi || line) ≡ false → (if trap then rows.Trap else if nmi then rows.Nmi else if line then rows.Line else rows.Idle) ≡ rows.Idle
-halted_idles false false false e = refl
-halted_idles true nmi line e = absurd cc
-halted_idles false true line e = absurd cc
-halted_idles false false true e = absurd cc
+module _ {B : Type 0} (rules : Rules B) (m : Machine B) (row : Boundary)
+    (told : row ≡ boundary_rows m.state.core.activity (rules.wants m.board) 0 m.state.core.regs m.state.core.latches) where
+  -- the row is idle where that is told
+  pub idle_row : row ≡ rows.Idle → row_of rules m ≡ rows.Idle
+  unfolding boundary
+  idle_row e = idles m.state.core.activity (rules.wants m.board) 0 (hits_here m.state.core.regs) m.state.core.regs m.state.core.latches (sym told ∙ e)
 
-pub running_told : (wants : Bool) (hits : ℕ) (r : Regs) (latches : Latches) → (takes_trap latches || takes_nmi latches || takes_line wants r latches) ≡ true → IsDelivery (boundary_rows Running wants hits r latches)
-running_told wants hits r latches e = running_delivers (takes_trap latches) (takes_break r latches hits) (takes_nmi latches) (takes_line wants r latches) hits e
+  -- it is not built where another is told and the registers are not covered
+  pub unbuilt_row : (row ≡ rows.Idle → ⊥) → is_covered m.state.core.regs ≡ false → IsUnbuilt rules m
+  unfolding boundary
+  unbuilt_row h e = unbuilt_by _ m.state.core.regs
+      (λ i. h (told ∙ idles m.state.core.activity (rules.wants m.board) (hits_here m.state.core.regs) 0 m.state.core.regs m.state.core.latches i)) e
 
-pub running_else : (wants : Bool) (hits : ℕ) (r : Regs) (latches : Latches) → (takes_trap latches || takes_nmi latches || takes_line wants r latches) ≡ false → MayExecute (boundary_rows Running wants hits r latches)
-running_else wants hits r latches e = running_executes (takes_trap latches) (takes_break r latches hits) (takes_nmi latches) (takes_line wants r latches) hits e
-
-pub halted_told : (wants : Bool) (hits : ℕ) (r : Regs) (latches : Latches) → (takes_trap latches || takes_nmi latches || takes_line wants r latches) ≡ true → IsDelivery (boundary_rows Halted wants hits r latches)
-halted_told wants hits r latches e = halted_delivers (takes_trap latches) (takes_nmi latches) (takes_line wants r latches) e
-
-pub halted_else : (wants : Bool) (hits : ℕ) (r : Regs) (latches : Latches) → (takes_trap latches || takes_nmi latches || takes_line wants r latches) ≡ false → boundary_rows Halted wants hits r latches ≡ rows.Idle
-halted_else wants hits r latches e = halted_idles (takes_trap latches) (takes_nmi latches) (takes_line wants r latches) e
-
-pub ruleset told = (running_told, running_else, halted_told, halted_else)
+  -- it is what is told where they are covered
+  pub covered_row : is_covered m.state.core.regs ≡ true → row_of rules m ≡ row
+  unfolding boundary
+  covered_row e = ap (λ (hits : ℕ). boundary_rows m.state.core.activity (rules.wants m.board) hits m.state.core.regs m.state.core.latches) (no_hits m.state.core.regs _ (covered m.state.core.regs e).breakpoints) ∙ sym told

@@ -10,7 +10,9 @@ use Rattle.mdl_state.specs.Registers.{seg_of}
 use Rattle.mdl_state.specs.Serving.{Pick, by_pick, outcome}
 use Rattle.mdl_state.specs.Attempt.{Plan, Done, Fail, Load, tried}
 use Rattle.mdl_cpu.specs.Segments.{who_of}
-use Rattle.mdl_cpu.specs.Faults.{general_protection}
+use Rattle.mdl_cpu.specs.Faults.{undefined_opcode, general_protection}
+use Rattle.insn_decode.specs.declared.refusals.Undecoded.{Undecoded}
+use Rattle.insn_decode.specs.declared.refusals.Undecoded.TheVariants.{Undefined, TooLong, Fetch}
 
 -- the base and the limit of CS, for whom code is read, the offset of the next byte, and memory
 pub record Window : Type 0 where
@@ -38,3 +40,9 @@ pub record IsAt (r : Regs) (n : ℕ) (w : Window) : Type 0 where
   pub limit : w.limit ≡ (seg_of r Cs).limit
   pub who : w.who ≡ who_of r
   pub offset : w.offset ≡ r.eip + n
+
+-- the fault of code that is no instruction
+abbrev pub fault_of : Undecoded → Fault
+fault_of Undefined = undefined_opcode
+fault_of TooLong = general_protection 0
+fault_of (Fetch fault) = fault

@@ -1,11 +1,13 @@
 //! The boundary between two instructions. Manual, chapters 9 and 10.
 
-ghost use Rattle.std.specs.Prelude.{◌≡◌, ◌<◌, ℕ};
+ghost use Rattle.std.specs.Prelude.{◌≡◌, ◌<◌, ℕ, if◌then◌else◌};
+ghost use Rattle.std.specs.Bool.{OnTrue, OnFalse};
 ghost use Rattle.mdl_state.specs.Bytes.{bit};
+ghost use Rattle.mdl_step.specs.Boundary as rows;
 ghost use Rattle.mdl_step.specs.Boundary.{takes_nmi, takes_trap, takes_line, boundary_rows};
 ghost use Rattle.mdl_step.specs.Step.{hold_after, activity_after};
 ghost use Rattle.operands.specs.Whole.{whole};
-ghost use Rattle.cpu_core.specs.Rows.{IsRow};
+ghost use Rattle.cpu_core.specs.Rows.{told};
 
 use mdl_state::{Activity, Latches, Next, Regs};
 
@@ -18,12 +20,14 @@ const HOLD_ALL: u8 = 1;
 /// The interrupt line is held back for one instruction.
 const HOLD_INTERRUPTS: u8 = 2;
 
-/// What the next step is.
+/// What the next step is. Where a breakpoint comes before an instruction, that is not told.
 #[derive(Clone, Copy)]
 pub(crate) enum Row {
     Idle,
+    Trap,
+    Nmi,
+    Line,
     Execute,
-    Deliver,
 }
 
 /// Whether a bit is 1.
@@ -56,34 +60,49 @@ fn takes_line(wants: bool, regs: &Regs, latches: &Latches) -> bool
     wants && has(regs.eflags, INTERRUPTS) && latches.hold == 0
 }
 
-/// The first row that holds. Whether a breakpoint comes before an instruction is not told.
+/// What is taken between two instructions, or else `rest`.
 #[inline(always)]
-#[tactic(auto, using(crate::proofs::Rows::told))]
+fn between(wants: bool, regs: &Regs, latches: &Latches, rest: Row) -> Row
+    ensures { (flags : ℕ) → told result ≡ (if takes_trap latches.now then rows.Trap else if takes_nmi latches.now then rows.Nmi
+        else if takes_line wants (whole regs.now flags) latches.now then rows.Line else told rest) }
+{
+    if takes_trap(latches) {
+        Row::Trap
+    } else if takes_nmi(latches) {
+        Row::Nmi
+    } else if takes_line(wants, regs, latches) {
+        Row::Line
+    } else {
+        rest
+    }
+}
+
+/// The first row that holds, where no breakpoint is enabled.
+#[inline(always)]
 pub(crate) fn boundary(activity: Activity, wants: bool, regs: &Regs, latches: &Latches) -> Row
-    ensures { (flags hits : ℕ) → IsRow result (boundary_rows activity wants hits (whole regs.now flags) latches.now) }
+    ensures { (flags : ℕ) → told result ≡ boundary_rows activity wants 0 (whole regs.now flags) latches.now }
 {
     match activity {
-        Activity::Running => {
-            if takes_trap(latches) || takes_nmi(latches) || takes_line(wants, regs, latches) {
-                Row::Deliver
-            } else {
-                Row::Execute
-            }
-        }
-        Activity::Halted => {
-            if takes_trap(latches) || takes_nmi(latches) || takes_line(wants, regs, latches) {
-                Row::Deliver
-            } else {
-                Row::Idle
-            }
-        }
+        Activity::Running => between(wants, regs, latches, Row::Execute),
+        Activity::Halted => between(wants, regs, latches, Row::Idle),
         Activity::Shutdown => {
             if takes_nmi(latches) {
-                Row::Deliver
+                Row::Nmi
             } else {
                 Row::Idle
             }
         }
+    }
+}
+
+/// Whether nothing happens in a step.
+pub(crate) fn is_idle(row: Row) -> bool
+    ensures idle { OnTrue result (told row ≡ rows.Idle) }
+    ensures busy { OnFalse result (told row ≡ rows.Idle → ⊥) }
+{
+    match row {
+        Row::Idle => true,
+        _ => false,
     }
 }
 

@@ -3,37 +3,47 @@
 ghost use Rattle.std.specs.Prelude.{◌≡◌, ◌<◌, ◌+◌, ◌-◌, ◌^◌, ℕ, [], true, false};
 ghost use Rattle.std.specs.Bool.{OnTrue, OnFalse};
 ghost use Rattle.std.specs.Borrow.{Lends, sem};
+ghost use Rattle.mdl_state.specs.declared.Regs.{Regs as Registers};
+ghost use Rattle.mdl_state.specs.Accesses.{with_a20};
 ghost use Rattle.mdl_state.specs.Boot.{reset_core};
 ghost use Rattle.mdl_state.specs.Choices.{Meets};
 ghost use Rattle.mdl_state.specs.Machine.{Machine};
-ghost use Rattle.mdl_state.specs.Serving.{Policy};
+ghost use Rattle.mdl_state.specs.Serving.{Policy, Passed, by_pick};
+ghost use Rattle.mdl_insn.specs.declared.instruction.Insn.{Insn as Instruction};
+ghost use Rattle.mdl_cpu.specs.Causes.{event_cause};
+ghost use Rattle.mdl_cpu.specs.Segments.{has_protection};
+ghost use Rattle.mdl_effect.specs.Operands.{PortUse};
 ghost use Rattle.mem_iface.specs.Rules.{rules_of};
 ghost use Rattle.mdl_step.specs.Boundary as rows;
+ghost use Rattle.mdl_step.specs.Delivering.{delivered};
 ghost use Rattle.mdl_step.specs.Events.{with_nmi, reset_with};
 ghost use Rattle.mdl_step.specs.RunLaws.{SomeStep};
-ghost use Rattle.mdl_step.specs.Step.{EndsBy, row_of, IsUnbuilt};
-ghost use Rattle.cpu_core.specs.Executing.{SomeExecution};
-ghost use Rattle.cpu_core.specs.Plain.{IsPlain};
-ghost use Rattle.cpu_core.specs.Rows.{MayExecute};
+ghost use Rattle.mdl_step.specs.Step.{EndsBy, IsUnbuilt, activity_after, at_nmi, at_trap, faulted, hold_after, is_covered, landed, masks, passed_by, resumed};
+ghost use Rattle.cpu_core.specs.Executing.{MayFollow};
+ghost use Rattle.cpu_core.specs.Plain.{IsPlain, IsReady};
+ghost use Rattle.cpu_core.specs.Rows.{told};
+ghost use Rattle.cpu_core.specs.Turns.{Executed, Takes};
 ghost use Rattle.cpu_core.specs.contracts.cpu.Cpu.{the_row};
 
-use crate::boundary::{Row, activity_after, boundary, hold_after};
+use crate::boundary::{Row, activity_after, boundary, hold_after, is_idle};
+use crate::causes::{DEBUG, NON_MASKABLE, activity_at, event_cause, pending_at, soft_cause};
 use crate::code::Code;
 use crate::decoding::decode;
 use crate::execute::{execute, is_covered, land, masks};
 use crate::reset::{clear_latches, reset_regs};
+use fault_delivery::{Cause, fault_cause, note_address};
 use insn_decode::blank;
 use lazy_flags::Flags;
-use mdl_insn::Insn;
-use mdl_state::{Activity, Latches, Regs};
+use mdl_insn::{Insn, Op};
+use mdl_state::{Activity, Fault, Latches, Next, Regs};
 use mem_iface::{Linear, Ports};
 use std::marker::Model;
 
 /// The processor over a memory and over ports, seen as the machine with the ports as its board.
 ///
 /// The status flags are kept apart from EFLAGS, and `insn` is the place of the instruction that is
-/// decoded. Paging is off, nothing is held, no items are left, and no
-/// breakpoint is looked for.
+/// decoded. Between two steps the registers are sound, and in real mode paging is off; nothing is held, no
+/// items are left, and no breakpoint is looked for.
 #[derive(Drop)]
 pub struct Cpu<L: Linear, P: Ports> {
     regs: Regs,
@@ -51,7 +61,7 @@ impl<L: Linear, P: Ports> Model for Cpu<L, P> {
     ghost use Rattle.mdl_state.specs.Codes.{mem_code};
     ghost use Rattle.mdl_state.specs.Machine.{Machine};
     ghost use Rattle.operands.specs.Whole.{whole};
-    ghost use Rattle.cpu_core.specs.Plain.{IsPlain};
+    ghost use Rattle.cpu_core.specs.Plain.{IsReady};
 
     ghost Value = { Machine P };
 
@@ -65,7 +75,7 @@ impl<L: Linear, P: Ports> Model for Cpu<L, P> {
       board = p.ports;
     } };
 
-    ghost invariant = { λ p. IsPlain (L.seen p.code.lin) };
+    ghost invariant = { λ p. IsReady (whole p.regs p.flags) (L.seen p.code.lin) };
 }
 
 impl<L: Linear, P: Ports> Cpu<L, P> {
@@ -90,49 +100,233 @@ impl<L: Linear, P: Ports> Cpu<L, P> {
         }
     }
 
-    /// Executes the instruction at CS:EIP, or answers false where that is not built, and then changes
-    /// nothing.
-    fn execute(&mut self) -> bool
-        requires row { MayExecute (row_of (rules_of P.Ports) self.old) }
-        ensures row { OnTrue result (row_of (rules_of P.Ports) self.old ≡ rows.Execute) }
-        ensures made { OnTrue result ((policy : Policy) → Meets L.pick policy → SomeExecution (rules_of P.Ports) policy self.old self.new) }
-        ensures unbuilt { OnFalse result ((policy : Policy) → Meets L.pick policy → IsUnbuilt (rules_of P.Ports) policy self.old) }
-        ensures unchanged { OnFalse result (self.new ≡ self.old) }
-        ensures count { self.new.state.core.steps ≡ self.old.state.core.steps }
+    /// The processor in a given state, before its next step.
+    #[tactic(auto, using(crate::proofs::Families::whole_unpacked))]
+    pub fn start_at(lin: L, ports: P, regs: Regs, activity: Activity, latches: Latches) -> Cpu<L, P>
+        requires ready { IsReady regs (L.seen lin) }
+        ensures core { result.state.core ≡ record { regs = regs; activity = activity; latches = latches; steps = 0 } }
+        ensures memory { result.state.mem ≡ L.seen lin }
+        ensures board { result.board ≡ ports }
+    {
+        Cpu {
+            regs,
+            flags: Flags::unpack(regs.eflags),
+            activity,
+            latches,
+            steps: 0,
+            code: Code::new(lin),
+            ports,
+            insn: blank(),
+        }
+    }
+
+    /// Delivers a cause, in real mode.
+    fn deliver(&mut self, cause: Cause)
+        requires mode { has_protection self.old.state.core.regs ≡ false }
+        ensures delivered { delivered (by_pick L.pick) cause self.old.state.core self.old.state.mem ≡ (Passed self.new.state.core, self.new.state.mem) }
+        ensures board { self.new.board ≡ self.old.board }
+        ensures steps { self.new.state.core.steps ≡ self.old.state.core.steps }
+        ensures served { self.new.state.mem.served ≡ [] }
         ensures a20 { self.new.state.mem.physical.a20 ≡ self.old.state.mem.physical.a20 }
+    {
+        self.regs.eflags = self.flags.pack(self.regs.eflags);
+        let delivered = fault_delivery::deliver(&mut self.regs, &mut self.code.lin, cause);
+        self.flags = Flags::unpack(self.regs.eflags);
+        self.activity = activity_at(delivered);
+        self.latches.pending = pending_at(delivered, self.latches.pending);
+    }
+
+    /// Delivers the fault of the instruction at CS:EIP. What was held back no longer is.
+    fn fault(&mut self, fault: Fault)
+        requires mode { has_protection self.old.state.core.regs ≡ false }
+        ensures faulted { faulted (by_pick L.pick) self.old.state.core fault self.old.state.mem ≡ (Passed self.new.state.core, self.new.state.mem) }
+        ensures board { self.new.board ≡ self.old.board }
+        ensures steps { self.new.state.core.steps ≡ self.old.state.core.steps }
+        ensures served { self.new.state.mem.served ≡ [] }
+        ensures a20 { self.new.state.mem.physical.a20 ≡ self.old.state.mem.physical.a20 }
+    {
+        let cause = fault_cause(&self.regs, fault);
+        note_address(&mut self.regs, fault);
+        self.latches.hold = 0;
+        self.deliver(cause);
+    }
+
+    /// What an instruction leaves of the processor that has these registers behind it.
+    #[inline(always)]
+    fn land(&mut self, op: Op, next: Next, back: u32)
+        ensures core { self.new.state.core ≡ record self.old.state.core {
+          regs = resumed op next (landed next self.old.state.core.regs back);
+          activity = activity_after next;
+          latches = record self.old.state.core.latches { masked = masks op self.old.state.core.latches.masked; hold = hold_after next };
+        } }
+        ensures memory { self.new.state.mem ≡ self.old.state.mem }
         ensures board { self.new.board ≡ self.old.board }
     {
-        if !is_covered(&self.regs) {
-            return false;
+        land(&mut self.regs, op, next, back);
+        self.activity = activity_after(next);
+        self.latches.masked = masks(op, self.latches.masked);
+        self.latches.hold = hold_after(next);
+    }
+
+    /// What follows an instruction that passed: a software interrupt is delivered.
+    #[inline(always)]
+    fn complete(&mut self, op: Op, next: Next, back: u32)
+        requires follows { MayFollow next self.old.state.core.regs }
+        requires served { self.old.state.mem.served ≡ [] }
+        ensures made { (insn : Instruction) (old : Registers) (access : PortUse) → insn.op ≡ op → is_covered old ≡ true →
+            passed_by next (by_pick L.pick) (record self.old.state.core { regs = old }) insn (record { regs = self.old.state.core.regs; next = next; access = access }) back 0 self.old.state.mem
+            ≡ (Passed self.new.state.core, self.new.state.mem) }
+        ensures board { self.new.board ≡ self.old.board }
+        ensures steps { self.new.state.core.steps ≡ self.old.state.core.steps }
+        ensures served { self.new.state.mem.served ≡ [] }
+        ensures a20 { self.new.state.mem.physical.a20 ≡ self.old.state.mem.physical.a20 }
+    {
+        self.land(op, next, back);
+        if let Next::Soft(vector) = next {
+            self.deliver(soft_cause(vector, back));
         }
-        let Some(count) = decode(&mut self.code, &self.regs, &mut self.insn) else {
-            return false;
+    }
+
+    /// Executes the instruction at CS:EIP, or delivers its fault. Answers whether a port may have been
+    /// written.
+    #[inline(always)]
+    fn execute(&mut self) -> bool
+        requires covered { is_covered self.old.state.core.regs ≡ true }
+        ensures executed { Executed (rules_of P.Ports) L.pick self.old self.new }
+        ensures steps { self.new.state.core.steps ≡ self.old.state.core.steps }
+        ensures served { self.new.state.mem.served ≡ [] }
+        ensures a20 { self.new.state.mem.physical.a20 ≡ self.old.state.mem.physical.a20 }
+        ensures board { OnFalse result (self.new.board ≡ self.old.board) }
+    {
+        let count = match decode(&mut self.code, &self.regs, &mut self.insn) {
+            Ok(count) => count,
+            Err(fault) => {
+                self.fault(fault);
+                return false;
+            }
         };
         let back = self.regs.eip.wrapping_add(count as u32);
-        let Some(next) = execute(
+        match execute(
             &mut self.regs,
             &mut self.flags,
             &mut self.code.lin,
+            &mut self.ports,
             &self.insn,
             back,
-        ) else {
-            return false;
-        };
-        land(&mut self.regs, self.insn.op, next, back);
-        self.activity = activity_after(next);
-        self.latches.masked = masks(self.insn.op, self.latches.masked);
-        self.latches.hold = hold_after(next);
-        true
+        ) {
+            Ok(ran) => {
+                let op = self.insn.op;
+                self.complete(op, ran.next, back);
+                !ran.alone
+            }
+            Err(fault) => {
+                self.fault(fault);
+                false
+            }
+        }
+    }
+
+    /// Delivers the debug trap that is pending.
+    fn trap(&mut self)
+        requires mode { has_protection self.old.state.core.regs ≡ false }
+        ensures delivered { delivered (by_pick L.pick) (event_cause self.old.state.core.regs 1) (at_trap self.old.state.core) self.old.state.mem
+            ≡ (Passed self.new.state.core, self.new.state.mem) }
+        ensures board { self.new.board ≡ self.old.board }
+        ensures steps { self.new.state.core.steps ≡ self.old.state.core.steps }
+        ensures served { self.new.state.mem.served ≡ [] }
+        ensures a20 { self.new.state.mem.physical.a20 ≡ self.old.state.mem.physical.a20 }
+    {
+        let cause = event_cause(&self.regs, DEBUG);
+        self.regs.dr6 |= self.latches.pending as u32;
+        self.latches.pending = 0;
+        self.deliver(cause);
+    }
+
+    /// Delivers the NMI that waits, and masks others.
+    fn take_nmi(&mut self)
+        requires mode { has_protection self.old.state.core.regs ≡ false }
+        ensures delivered { delivered (by_pick L.pick) (event_cause self.old.state.core.regs 2) (at_nmi self.old.state.core) self.old.state.mem
+            ≡ (Passed self.new.state.core, self.new.state.mem) }
+        ensures board { self.new.board ≡ self.old.board }
+        ensures steps { self.new.state.core.steps ≡ self.old.state.core.steps }
+        ensures served { self.new.state.mem.served ≡ [] }
+        ensures a20 { self.new.state.mem.physical.a20 ≡ self.old.state.mem.physical.a20 }
+    {
+        let cause = event_cause(&self.regs, NON_MASKABLE);
+        self.latches.nmi = false;
+        self.latches.masked = true;
+        self.deliver(cause);
+    }
+
+    /// Acknowledges the interrupt that the board wants, and delivers its vector.
+    fn interrupt(&mut self)
+        requires mode { has_protection self.old.state.core.regs ≡ false }
+        requires wants { P.wants self.old.board ≡ true }
+        ensures delivered { (vector : ℕ) × P.tells self.old.board vector self.new.board
+            × (delivered (by_pick L.pick) (event_cause self.old.state.core.regs vector) self.old.state.core self.old.state.mem ≡ (Passed self.new.state.core, self.new.state.mem)) }
+        ensures gate { P.gate self.new.board ≡ P.gate self.old.board }
+        ensures steps { self.new.state.core.steps ≡ self.old.state.core.steps }
+        ensures served { self.new.state.mem.served ≡ [] }
+        ensures a20 { self.new.state.mem.physical.a20 ≡ self.old.state.mem.physical.a20 }
+    {
+        let vector = self.ports.acknowledge();
+        let cause = event_cause(&self.regs, vector);
+        self.deliver(cause);
+    }
+
+    /// Takes a row of the boundary. Answers whether a port may have been written.
+    #[inline(always)]
+    fn take(&mut self, row: Row) -> bool
+        requires busy { told row ≡ rows.Idle → ⊥ }
+        requires covered { is_covered self.old.state.core.regs ≡ true }
+        requires wants { told row ≡ rows.Line → P.wants self.old.board ≡ true }
+        ensures taken { Takes (told row) (rules_of P.Ports) L.pick self.old self.new }
+        ensures steps { self.new.state.core.steps ≡ self.old.state.core.steps }
+        ensures served { self.new.state.mem.served ≡ [] }
+        ensures a20 { self.new.state.mem.physical.a20 ≡ self.old.state.mem.physical.a20 }
+        ensures gate { OnFalse result (P.gate self.new.board ≡ P.gate self.old.board) }
+    {
+        match row {
+            Row::Execute => self.execute(),
+            Row::Line => {
+                self.interrupt();
+                false
+            }
+            Row::Nmi => {
+                self.take_nmi();
+                false
+            }
+            Row::Trap => {
+                self.trap();
+                false
+            }
+            Row::Idle => unreachable!(),
+        }
+    }
+
+    /// Sets the line A20 as the ports have it, where one may have been written.
+    #[inline(always)]
+    fn settle_gate(&mut self, wrote: bool)
+        requires a20 { OnFalse wrote (P.gate self.old.board ≡ self.old.state.mem.physical.a20) }
+        ensures core { self.new.state.core ≡ self.old.state.core }
+        ensures memory { self.new.state.mem ≡ with_a20 (P.gate self.old.board) self.old.state.mem }
+        ensures board { self.new.board ≡ self.old.board }
+    {
+        if wrote {
+            self.code.lin.set_a20(self.ports.a20());
+        }
     }
 
     /// Counts a step, and makes the reset that the ports ask for.
-    fn finish(&mut self)
+    #[inline(always)]
+    fn finish(&mut self, wrote: bool)
         requires steps { self.old.state.core.steps < 2 ^ 64 - 1 }
-        requires a20 { P.gate self.old.board ≡ self.old.state.mem.physical.a20 }
+        requires a20 { OnFalse wrote (P.gate self.old.board ≡ self.old.state.mem.physical.a20) }
         ensures ends { EndsBy (P.asks self.old.board) (rules_of P.Ports) self.old self.new }
         ensures count { self.new.state.core.steps ≡ self.old.state.core.steps + 1 }
         ensures a20 { P.gate self.new.board ≡ self.new.state.mem.physical.a20 }
     {
+        self.settle_gate(wrote);
         self.steps += 1;
         if self.ports.take_reset() {
             self.reset();
@@ -142,29 +336,27 @@ impl<L: Linear, P: Ports> Cpu<L, P> {
     /// Makes a step of the written machine, for some choice whose items meet each policy that those of
     /// the memory meet. Answers false where the next step is not built, and then changes nothing.
     ///
-    /// The line A20 of the memory is that of the ports, before it and behind it. Paging is off in each
-    /// step that is built.
+    /// The line A20 of the memory is that of the ports, before it and behind it.
     pub fn step(&mut self) -> bool
         requires steps { self.old.state.core.steps < 2 ^ 64 - 1 }
         requires a20 { P.gate self.old.board ≡ self.old.state.mem.physical.a20 }
         ensures made { OnTrue result ((policy : Policy) → Meets L.pick policy → SomeStep (rules_of P.Ports) policy self.old self.new) }
         ensures count { OnTrue result (self.new.state.core.steps ≡ self.old.state.core.steps + 1) }
-        ensures unbuilt { OnFalse result ((policy : Policy) → Meets L.pick policy → IsUnbuilt (rules_of P.Ports) policy self.old) }
+        ensures unbuilt { OnFalse result (IsUnbuilt (rules_of P.Ports) self.old) }
         ensures unchanged { OnFalse result (self.new ≡ self.old) }
-        ensures unpaged { self.old.state.mem.paging ≡ false }
         ensures a20 { P.gate self.new.board ≡ self.new.state.mem.physical.a20 }
     {
         let wants = self.ports.wants_interrupt();
-        match boundary(self.activity, wants, &self.regs, &self.latches) {
-            Row::Idle => {}
-            Row::Deliver => return false,
-            Row::Execute => {
-                if !self.execute() {
-                    return false;
-                }
-            }
+        let row = boundary(self.activity, wants, &self.regs, &self.latches);
+        if is_idle(row) {
+            self.finish(false);
+            return true;
         }
-        self.finish();
+        if !is_covered(&self.regs) {
+            return false;
+        }
+        let wrote = self.take(row);
+        self.finish(wrote);
         true
     }
 
@@ -198,6 +390,20 @@ impl<L: Linear, P: Ports> Cpu<L, P> {
         let mut regs = self.regs;
         regs.eflags = self.flags.pack(regs.eflags);
         regs
+    }
+
+    /// What the processor remembers between two steps.
+    pub fn latches(&self) -> Latches
+        ensures { result ≡ self.now.state.core.latches }
+    {
+        self.latches
+    }
+
+    /// The number of steps that were made.
+    pub fn steps(&self) -> u64
+        ensures { result ≡ self.now.state.core.steps }
+    {
+        self.steps
     }
 
     /// What the processor does.

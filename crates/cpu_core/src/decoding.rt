@@ -1,33 +1,49 @@
 //! The instruction at CS:EIP.
 
-ghost use Rattle.std.specs.Prelude.{◌≡◌, ℕ, false, IfSome, IfNone};
-ghost use Rattle.mdl_state.specs.declared.Fault.{Fault};
+ghost use Rattle.std.specs.Prelude.{◌≡◌, ℕ, false, IfOk, IfErr};
 ghost use Rattle.mdl_state.specs.Serving.{by_pick};
 ghost use Rattle.mdl_cpu.specs.Segments.{has_protection};
 ghost use Rattle.mdl_step.specs.Fetching.{Instruction, Refused, Fetches};
 ghost use Rattle.operands.specs.Whole.{whole};
 ghost use Rattle.cpu_core.specs.Plain.{IsPlain};
+ghost use Rattle.cpu_core.specs.Window.{fault_of};
 
 use crate::code::Code;
-use insn_decode::decode_into;
+use insn_decode::{Undecoded, decode_into};
 use mdl_insn::Insn;
-use mdl_state::Regs;
+use mdl_state::{Fault, Regs};
 use mem_iface::Linear;
+use operands::{general_protection, no_such};
 
-/// The instruction at CS:EIP is fetched and put into `insn`. The answer is its length, or that there is
-/// none but a fault.
-pub(crate) fn decode<L: Linear>(code: &mut Code<L>, regs: &Regs, insn: &mut Insn) -> Option<u8>
+/// The fault of code that is no instruction.
+fn fault_of(cause: Undecoded) -> Fault
+    ensures { result ≡ fault_of cause }
+{
+    match cause {
+        Undecoded::Undefined => no_such(),
+        Undecoded::TooLong => general_protection(0),
+        Undecoded::Fetch(fault) => fault,
+    }
+}
+
+/// The instruction at CS:EIP is fetched and put into `insn`. The answer is its length, or the fault of
+/// what is no instruction.
+pub(crate) fn decode<L: Linear>(
+    code: &mut Code<L>,
+    regs: &Regs,
+    insn: &mut Insn,
+) -> Result<u8, Fault>
     requires mode { has_protection regs.now ≡ false }
     requires plain { IsPlain (L.seen code.old.lin) }
-    ensures found { IfSome result (λ count. (flags : ℕ) →
+    ensures found { IfOk result (λ count. (flags : ℕ) →
         Fetches (by_pick L.pick) (whole regs.now flags) (L.seen code.old.lin) (Instruction insn.new count) (L.seen code.new.lin)) }
-    ensures refused { IfNone result ((flags : ℕ) → (fault : Fault) ×
+    ensures refused { IfErr result (λ fault. (flags : ℕ) →
         Fetches (by_pick L.pick) (whole regs.now flags) (L.seen code.old.lin) (Refused fault) (L.seen code.new.lin)) }
     ensures memory { L.seen code.new.lin ≡ L.seen code.old.lin }
 {
     code.start(regs);
     match decode_into(code, false, insn) {
-        Ok(count) => Some(count),
-        Err(_) => None,
+        Ok(count) => Ok(count),
+        Err(cause) => Err(fault_of(cause)),
     }
 }

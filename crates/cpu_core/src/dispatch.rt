@@ -1,94 +1,186 @@
 //! An instruction by the family of its mnemonic.
 
-ghost use Rattle.std.specs.Prelude.{◌≡◌, ℕ, Bool, false, List, IfOk, OnErr, []};
+ghost use Rattle.std.specs.Prelude.{◌≡◌, ◌&&◌, ℕ, Bool, true, false, List, IsTrue, not, []};
 ghost use Rattle.mdl_insn.specs.Spelling.{Spelt};
-ghost use Rattle.mdl_state.specs.State.{Mem};
-ghost use Rattle.mdl_state.specs.Serving.{Serve, by_pick};
-ghost use Rattle.mdl_state.specs.Accesses.{Keeps};
-ghost use Rattle.mdl_state.specs.Attempt.{tried};
 ghost use Rattle.mdl_cpu.specs.Segments.{has_protection};
-ghost use Rattle.mdl_effect.specs.Operands.{IsOrdinary};
-ghost use Rattle.mdl_step.specs.Effects.{is_far_jump, is_halt, halt_plan, effect};
-ghost use Rattle.operands.specs.Whole.{whole, ran};
+ghost use Rattle.mdl_effect.specs.DataEffects.{runs_data};
+ghost use Rattle.mdl_effect.specs.FlowEffects.{runs_flow};
+ghost use Rattle.mdl_effect.specs.StringEffects.{runs_string};
+ghost use Rattle.mdl_effect.specs.FarEffects.{runs_far};
+ghost use Rattle.mdl_effect.specs.SystemEffects.{runs_system};
+ghost use Rattle.mem_iface.specs.Rules.{rules_of};
+ghost use Rattle.operands.specs.Whole.{whole};
+ghost use Rattle.cpu_core.specs.Families.{is_port_string};
+ghost use Rattle.cpu_core.specs.Ran.{marked, Runs};
 
-use crate::far_jump::jump_far;
 use exec_data::runs_data;
+use exec_far::runs_far;
 use exec_flow::runs_flow;
+use exec_system::runs_system;
 use lazy_flags::Flags;
-use mdl_insn::{Insn, Op, Operand};
+use mdl_insn::{Insn, Op};
 use mdl_state::{Fault, Next, Regs};
-use mem_iface::Linear;
-use operands::{general_protection, no_such};
+use mem_iface::{Linear, Ports};
+use operands::no_such;
 use string_ops::runs_string;
 
-/// Whether it is a JMP to a selector and an offset.
-fn is_far_jump(insn: &Insn) -> bool
-    ensures { result ≡ is_far_jump insn.now.op insn.now.a }
+/// What follows an instruction that ran, and whether it stands alone: it used no port, and left the
+/// control registers that memory goes by.
+#[derive(Clone, Copy)]
+pub(crate) struct Ran {
+    pub(crate) next: Next,
+    pub(crate) alone: bool,
+}
+
+/// An answer with that mark.
+#[inline(always)]
+fn marked(answer: Result<Next, Fault>, alone: bool) -> Result<Ran, Fault>
+    ensures { result ≡ marked answer alone }
 {
-    match insn.op {
-        Op::Jmpf => match insn.a {
-            Operand::Far(_, _) => true,
-            _ => false,
-        },
-        _ => false,
+    match answer {
+        Ok(next) => Ok(Ran { next, alone }),
+        Err(fault) => Err(fault),
     }
 }
 
-/// Whether it is HLT.
-fn is_halt(op: Op) -> bool
-    ensures { result ≡ is_halt op }
+/// Whether it is INS or OUTS.
+fn is_port_string(op: Op) -> bool
+    ensures { result ≡ is_port_string op }
 {
     match op {
-        Op::Hlt => true,
+        Op::Ins | Op::Outs => true,
         _ => false,
     }
 }
 
-/// HLT, at privilege level 0 alone.
-fn halt(regs: &Regs) -> Result<Next, Fault>
-    ensures run { (flags : ℕ) (serve : Serve) (m : Mem) →
-        (ran result (whole regs.now flags), m) ≡ tried serve 0 (halt_plan (whole regs.now flags)) m }
-    ensures ordinary { IfOk result (λ next. IsOrdinary next) }
-{
-    if regs.cpl == 0 {
-        Ok(Next::Halt)
-    } else {
-        Err(general_protection(0))
-    }
-}
-
-/// Runs an instruction in an attempt. `back` is the EIP behind it.
-#[tactic(auto, using(mdl_step::proofs::EffectLaws::effects))]
-pub(crate) fn run<L: Linear>(
+/// A data instruction.
+#[inline(always)]
+fn run_data<L: Linear, P: Ports>(
     regs: &mut Regs,
     flags: &mut Flags,
     lin: &mut L,
+    ports: &P,
     insn: &Insn,
     back: u32,
-) -> Result<Next, Fault>
+) -> Result<Ran, Fault>
+    requires spelt { (bytes : List ℕ) × (big : Bool) × Spelt bytes big insn.now }
+    requires runs { runs_data insn.now ≡ true }
+    requires mode { has_protection regs.old ≡ false }
+    requires held { (L.seen lin.old).held ≡ [] }
+    ensures { Runs (rules_of P.Ports) L.pick insn.now (whole regs.old flags.old) back (L.seen lin.old) ports.now result (whole regs.new flags.new) (L.seen lin.new) ports.now }
+{
+    marked(exec_data::run(regs, flags, lin, insn, back), true)
+}
+
+/// An instruction of near flow, the stack or the flags.
+#[inline(always)]
+fn run_flow<L: Linear, P: Ports>(
+    regs: &mut Regs,
+    flags: &mut Flags,
+    lin: &mut L,
+    ports: &P,
+    insn: &Insn,
+    back: u32,
+) -> Result<Ran, Fault>
+    requires spelt { (bytes : List ℕ) × (big : Bool) × Spelt bytes big insn.now }
+    requires runs { runs_flow insn.now ≡ true }
+    requires mode { has_protection regs.old ≡ false }
+    requires held { (L.seen lin.old).held ≡ [] }
+    ensures { Runs (rules_of P.Ports) L.pick insn.now (whole regs.old flags.old) back (L.seen lin.old) ports.now result (whole regs.new flags.new) (L.seen lin.new) ports.now }
+{
+    marked(exec_flow::run(regs, flags, lin, insn, back), true)
+}
+
+/// A string instruction.
+#[inline(always)]
+fn run_string<L: Linear, P: Ports>(
+    regs: &mut Regs,
+    flags: &mut Flags,
+    lin: &mut L,
+    ports: &mut P,
+    insn: &Insn,
+    back: u32,
+) -> Result<Ran, Fault>
+    requires spelt { (bytes : List ℕ) × (big : Bool) × Spelt bytes big insn.now }
+    requires runs { runs_string insn.now.op ≡ true }
+    requires mode { has_protection regs.old ≡ false }
+    requires held { (L.seen lin.old).held ≡ [] }
+    ensures { Runs (rules_of P.Ports) L.pick insn.now (whole regs.old flags.old) back (L.seen lin.old) ports.old result (whole regs.new flags.new) (L.seen lin.new) ports.new }
+{
+    let answer = string_ops::run(regs, flags, lin, ports, insn);
+    marked(answer, !is_port_string(insn.op))
+}
+
+/// A far instruction, which has EFLAGS whole.
+fn run_far<L: Linear, P: Ports>(
+    regs: &mut Regs,
+    flags: &mut Flags,
+    lin: &mut L,
+    ports: &P,
+    insn: &Insn,
+    back: u32,
+) -> Result<Ran, Fault>
+    requires spelt { (bytes : List ℕ) × (big : Bool) × Spelt bytes big insn.now }
+    requires runs { runs_far insn.now ≡ true }
+    requires mode { has_protection regs.old ≡ false }
+    requires held { (L.seen lin.old).held ≡ [] }
+    ensures { Runs (rules_of P.Ports) L.pick insn.now (whole regs.old flags.old) back (L.seen lin.old) ports.now result (whole regs.new flags.new) (L.seen lin.new) ports.now }
+{
+    regs.eflags = flags.pack(regs.eflags);
+    let answer = exec_far::run(regs, lin, insn, back);
+    *flags = Flags::unpack(regs.eflags);
+    marked(answer, false)
+}
+
+/// An instruction of the system, which has EFLAGS whole.
+fn run_system<L: Linear, P: Ports>(
+    regs: &mut Regs,
+    flags: &mut Flags,
+    lin: &mut L,
+    ports: &mut P,
+    insn: &Insn,
+    back: u32,
+) -> Result<Ran, Fault>
+    requires spelt { (bytes : List ℕ) × (big : Bool) × Spelt bytes big insn.now }
+    requires runs { runs_system insn.now ≡ true }
+    requires mode { has_protection regs.old ≡ false }
+    requires held { (L.seen lin.old).held ≡ [] }
+    ensures { Runs (rules_of P.Ports) L.pick insn.now (whole regs.old flags.old) back (L.seen lin.old) ports.old result (whole regs.new flags.new) (L.seen lin.new) ports.new }
+{
+    regs.eflags = flags.pack(regs.eflags);
+    let answer = exec_system::run(regs, lin, ports, insn, back);
+    *flags = Flags::unpack(regs.eflags);
+    marked(answer, false)
+}
+
+/// Runs an instruction in an attempt. `back` is the EIP behind it.
+pub(crate) fn run<L: Linear, P: Ports>(
+    regs: &mut Regs,
+    flags: &mut Flags,
+    lin: &mut L,
+    ports: &mut P,
+    insn: &Insn,
+    back: u32,
+) -> Result<Ran, Fault>
     requires spelt { (bytes : List ℕ) × (big : Bool) × Spelt bytes big insn.now }
     requires mode { has_protection regs.old ≡ false }
     requires held { (L.seen lin.old).held ≡ [] }
-    ensures run { (ran result (whole regs.new flags.new), L.seen lin.new)
-        ≡ tried (by_pick L.pick) 0 (effect insn.now (whole regs.old flags.old) back (whole regs.new flags.new).eflags) (L.seen lin.old) }
-    ensures unchanged { OnErr result ((regs.new ≡ regs.old) × (flags.new ≡ flags.old)) }
-    ensures ordinary { IfOk result (λ next. IsOrdinary next) }
-    ensures keeps { Keeps (L.seen lin.old) (L.seen lin.new) }
+    ensures { Runs (rules_of P.Ports) L.pick insn.now (whole regs.old flags.old) back (L.seen lin.old) ports.old result (whole regs.new flags.new) (L.seen lin.new) ports.new }
 {
     if runs_data(insn) {
-        return exec_data::run(regs, flags, lin, insn, back);
+        return run_data(regs, flags, lin, ports, insn, back);
     }
     if runs_flow(insn) {
-        return exec_flow::run(regs, flags, lin, insn, back);
+        return run_flow(regs, flags, lin, ports, insn, back);
     }
     if runs_string(insn.op) {
-        return string_ops::run(regs, flags, lin, insn);
+        return run_string(regs, flags, lin, ports, insn, back);
     }
-    if is_far_jump(insn) {
-        return jump_far(regs, insn);
+    if runs_far(insn) {
+        return run_far(regs, flags, lin, ports, insn, back);
     }
-    if is_halt(insn.op) {
-        return halt(regs);
+    if runs_system(insn) {
+        return run_system(regs, flags, lin, ports, insn, back);
     }
     Err(no_such())
 }

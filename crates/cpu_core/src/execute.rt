@@ -1,24 +1,30 @@
-//! One instruction: what it leaves, or that it faults.
+//! One instruction: what it leaves, or its fault.
 
-ghost use Rattle.std.specs.Prelude.{◌≡◌, ℕ, Bool, false, List, IfSome, IfNone, OnSome};
+ghost use Rattle.std.specs.Prelude.{◌≡◌, ℕ, Bool, false, List, IfOk, IfErr, OnErr};
+ghost use Rattle.std.specs.Bool.{OnTrue};
 ghost use Rattle.mdl_insn.specs.Spelling.{Spelt};
+ghost use Rattle.mdl_state.specs.declared.Regs.{Regs as Registers};
+ghost use Rattle.mdl_state.specs.State.{Mem};
 ghost use Rattle.mdl_state.specs.Accesses.{Keeps};
 ghost use Rattle.mdl_cpu.specs.Segments.{has_protection};
-ghost use Rattle.mdl_step.specs.Step.{is_covered, keeps_resume, landed, resumed, masks};
+ghost use Rattle.mem_iface.specs.Rules.{rules_of};
+ghost use Rattle.mdl_step.specs.Step.{is_covered, keeps_resume, landed, resumed, masks, with_control, remapped};
 ghost use Rattle.operands.specs.Whole.{whole};
-ghost use Rattle.cpu_core.specs.Executing.{Passes, Faults};
-ghost use Rattle.cpu_core.specs.Plain.{IsPlain};
+ghost use Rattle.cpu_core.specs.Executing.{MayFollow, Passes, Faults};
+ghost use Rattle.cpu_core.specs.Plain.{IsReady};
 
 use crate::boundary::has;
-use crate::dispatch::run;
+use crate::dispatch::{Ran, run};
 use lazy_flags::Flags;
-use mdl_insn::{Insn, Op};
+use mdl_insn::{Insn, Op, Operand};
 use mdl_num::with_bit;
-use mdl_state::{Next, Regs};
-use mem_iface::Linear;
+use mdl_state::{Fault, Next, Regs};
+use mem_iface::{Linear, Ports};
 
-/// The number of PE in CR0.
+/// The numbers of PE and PG in CR0.
 const PROTECTION: u8 = 0;
+
+const PAGING: u8 = 31;
 
 /// The numbers of TF and RF in EFLAGS.
 const TRAP: u8 = 8;
@@ -31,38 +37,76 @@ const BREAKPOINTS: u32 = 0x100;
 /// Real mode, and nothing debugged.
 #[tactic(auto, using(crate::proofs::Modes::modes))]
 pub(crate) fn is_covered(regs: &Regs) -> bool
-    ensures own { result ≡ is_covered regs.now }
-    ensures value { (flags : ℕ) → result ≡ is_covered (whole regs.now flags) }
+    ensures { (flags : ℕ) → result ≡ is_covered (whole regs.now flags) }
 {
     !has(regs.cr0, PROTECTION) && !has(regs.eflags, TRAP) && regs.dr7 % BREAKPOINTS == 0
 }
 
-/// Runs an instruction, unless it faults, and then changes nothing. `back` is the EIP behind it.
-pub(crate) fn execute<L: Linear>(
+/// Loads what memory goes by of a control register.
+fn load_control<L: Linear>(lin: &mut L, number: u8, regs: &Regs)
+    ensures { (flags : ℕ) → L.seen lin.new ≡ with_control number (whole regs.now flags) (L.seen lin.old) }
+{
+    if number == 0 {
+        lin.set_paging(has(regs.cr0, PAGING));
+    } else if number == 3 {
+        lin.load_cr3(regs.cr3);
+    }
+}
+
+/// Memory behind an instruction that did not stand alone: a MOV to a control register loads that.
+fn remap<L: Linear>(lin: &mut L, insn: &Insn, regs: &Regs)
+    ensures { (flags : ℕ) → L.seen lin.new ≡ remapped insn.now.op insn.now.a (whole regs.now flags) (L.seen lin.old) }
+{
+    if let Op::Mov = insn.op {
+        if let Operand::Creg(number) = insn.a {
+            load_control(lin, number, regs);
+        }
+    }
+}
+
+/// Memory behind an instruction.
+#[inline(always)]
+fn settle<L: Linear>(lin: &mut L, insn: &Insn, regs: &Regs, alone: bool)
+    requires alone { OnTrue alone ((r : Registers) (m : Mem) → remapped insn.now.op insn.now.a r m ≡ m) }
+    ensures { (flags : ℕ) → L.seen lin.new ≡ remapped insn.now.op insn.now.a (whole regs.now flags) (L.seen lin.old) }
+{
+    if !alone {
+        remap(lin, insn, regs);
+    }
+}
+
+/// Runs an instruction: what it leaves is placed, or it faults and changes nothing. `back` is the EIP
+/// behind it.
+#[inline(always)]
+pub(crate) fn execute<L: Linear, P: Ports>(
     regs: &mut Regs,
     flags: &mut Flags,
     lin: &mut L,
+    ports: &mut P,
     insn: &Insn,
     back: u32,
-) -> Option<Next>
+) -> Result<Ran, Fault>
     requires spelt { (bytes : List ℕ) × (big : Bool) × Spelt bytes big insn.now }
     requires mode { has_protection regs.old ≡ false }
-    requires plain { IsPlain (L.seen lin.old) }
-    ensures passes { IfSome result (λ next. Passes L.pick insn.now (whole regs.old flags.old) back (L.seen lin.old)
-        (whole regs.new flags.new) next (L.seen lin.new)) }
-    ensures refused { IfNone result (Faults L.pick insn.now (whole regs.old flags.old) back (L.seen lin.old)) }
-    ensures unchanged { IfNone result ((regs.new ≡ regs.old) × (flags.new ≡ flags.old) × (L.seen lin.new ≡ L.seen lin.old)) }
-    ensures plain_new { IsPlain (L.seen lin.new) }
-    ensures keeps { Keeps (L.seen lin.old) (L.seen lin.new) }
+    requires ready { IsReady (whole regs.old flags.old) (L.seen lin.old) }
+    ensures passes { IfOk result (λ ran. Passes (rules_of P.Ports) L.pick insn.now (whole regs.old flags.old) back (L.seen lin.old) ports.old
+        (whole regs.new flags.new) ran.next (L.seen lin.new) ports.new) }
+    ensures follows { IfOk result (λ ran. MayFollow ran.next (whole regs.new flags.new)) }
+    ensures alone { IfOk result (λ ran. OnTrue ran.alone (ports.new ≡ ports.old)) }
+    ensures faults { IfErr result (λ fault. Faults L.pick insn.now (whole regs.old flags.old) back (L.seen lin.old) fault) }
+    ensures unchanged { OnErr result ((whole regs.new flags.new ≡ whole regs.old flags.old) × (L.seen lin.new ≡ L.seen lin.old) × (ports.new ≡ ports.old)) }
+    ensures ready { IsReady (whole regs.new flags.new) (L.seen lin.new) }
+    ensures a20 { (L.seen lin.new).physical.a20 ≡ (L.seen lin.old).physical.a20 }
 {
-    match run(regs, flags, lin, insn, back) {
-        Ok(next) => {
+    match run(regs, flags, lin, ports, insn, back) {
+        Ok(ran) => {
             lin.commit();
-            Some(next)
+            settle(lin, insn, regs, ran.alone);
+            Ok(ran)
         }
-        Err(_) => {
+        Err(fault) => {
             lin.discard();
-            None
+            Err(fault)
         }
     }
 }

@@ -5,12 +5,12 @@
 #![tactic(auto)]
 
 mod boundary;
+mod causes;
 mod code;
 mod cpu;
 mod decoding;
 mod dispatch;
 mod execute;
-mod far_jump;
 mod reset;
 
 pub use cpu::Cpu;

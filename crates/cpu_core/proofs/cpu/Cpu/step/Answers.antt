@@ -1,46 +1,40 @@
-use Rattle.std.proofs.Common.{◌≡◌, Bool, subst}
+use Rattle.std.proofs.Common.{◌≡◌, Bool, true, false, sym, subst, ◌∙◌}
 use Rattle.mdl_state.specs.Machine.{Machine}
 use Rattle.mem_iface.specs.Rules.{rules_of}
-use Rattle.mdl_step.specs.Boundary as rows
-use Rattle.mdl_step.specs.Boundary.{hits_here, boundary_rows, boundary}
-use Rattle.mdl_step.specs.Step.{EndsBy, row_of, IsUnbuilt}
+use Rattle.mdl_step.specs.Boundary.{boundary_rows}
+use Rattle.mdl_step.specs.Step.{is_covered}
 use Rattle.operands.specs.Whole.{whole}
-use Rattle.cpu_core.specs.Rows.{IsDelivery, MayExecute}
-use Rattle.cpu_core.proofs.Steps.{delivers, idled, stepped}
-use Rattle.cpu_core.proofs.cpu.Cpu.step.Goals.{in-Idle, in-Execute+else-not-execute}
+use Rattle.cpu_core.specs.Rows.{told}
+use Rattle.cpu_core.proofs.Rows.{idle_row, unbuilt_row, covered_row}
+use Rattle.cpu_core.proofs.Turns.{some_turn, idled, stepped}
 use Rattle.cpu_core.proofs.cpu.Cpu.step.Goals as goal
 
-pub returns-in-Deliver-clause-unbuilt : goal.returns-in-Deliver-clause-unbuilt
-unfolding boundary
-returns-in-Deliver-clause-unbuilt g c = λ policy meets.
+pub returns-then-is_idle-clause-made : goal.returns-then-is_idle-clause-made
+returns-then-is_idle-clause-made g c = λ policy meets.
     let inside = c.self.inside in
-    let r = whole inside.regs inside.flags in
-    let m : Machine _ = record { state = record { core = record { regs = r; activity = inside.activity; latches = inside.latches; steps = inside.steps }; mem = g.L.Linear.seen inside.code.lin }; board = inside.ports } in
-    subst (λ (x : Machine _). IsUnbuilt (rules_of g.P.Ports) policy x) c.self.view_is
-    (delivers (rules_of g.P.Ports) policy m
-    (subst (λ (wants : Bool). IsDelivery (boundary_rows inside.activity wants (hits_here r) r inside.latches)) c.wants_interrupt-wants.ensures (c.in-Deliver.ensures inside.flags (hits_here r))))
+    let told_is : told c.boundary-row.result ≡ boundary_rows c.args.self.now.state.core.activity (g.P.Ports.wants c.args.self.now.board) 0 c.args.self.now.state.core.regs c.args.self.now.state.core.latches =
+    subst (λ (x : Machine _). told c.boundary-row.result ≡ boundary_rows x.state.core.activity (g.P.Ports.wants x.board) 0 x.state.core.regs x.state.core.latches) c.self.view_is
+    (subst (λ (wants : Bool). told c.boundary-row.result ≡ boundary_rows inside.activity wants 0 (whole inside.regs inside.flags) inside.latches) c.wants_interrupt-wants.ensures (c.boundary-row.ensures inside.flags)) in
+    idled (rules_of g.P.Ports) policy c.args.self.now c.finish.new.self (idle_row (rules_of g.P.Ports) c.args.self.now (told c.boundary-row.result) told_is c.if-is_idle.ensures.idle)
+    c.finish.ensures.ends
 
-pub execute-requires : goal.execute-requires
-unfolding boundary
-execute-requires g c =
+pub returns-then-not-is_covered-clause-unbuilt : goal.returns-then-not-is_covered-clause-unbuilt
+returns-then-not-is_covered-clause-unbuilt g c =
     let inside = c.self.inside in
-    let r = whole inside.regs inside.flags in
-    record {
-      row = subst (λ (x : Machine _). MayExecute (row_of (rules_of g.P.Ports) x)) c.self.view_is
-          (subst (λ (wants : Bool). MayExecute (boundary_rows inside.activity wants (hits_here r) r inside.latches)) c.wants_interrupt-wants.ensures (c.in-Execute.ensures inside.flags (hits_here r)));
-    }
+    let told_is : told c.boundary-row.result ≡ boundary_rows c.args.self.now.state.core.activity (g.P.Ports.wants c.args.self.now.board) 0 c.args.self.now.state.core.regs c.args.self.now.state.core.latches =
+    subst (λ (x : Machine _). told c.boundary-row.result ≡ boundary_rows x.state.core.activity (g.P.Ports.wants x.board) 0 x.state.core.regs x.state.core.latches) c.self.view_is
+    (subst (λ (wants : Bool). told c.boundary-row.result ≡ boundary_rows inside.activity wants 0 (whole inside.regs inside.flags) inside.latches) c.wants_interrupt-wants.ensures (c.boundary-row.ensures inside.flags)) in
+    let uncovered : is_covered c.args.self.now.state.core.regs ≡ false = subst (λ (x : Machine _). is_covered x.state.core.regs ≡ false) c.self.view_is (sym (c.is_covered.ensures inside.flags) ∙ c.if-not-is_covered.true) in
+    unbuilt_row (rules_of g.P.Ports) c.args.self.now (told c.boundary-row.result) told_is c.if-is_idle.ensures.busy uncovered
 
 pub returns-clause-made : goal.returns-clause-made
-unfolding boundary
-returns-clause-made g c = λ policy meets. elim c.match-boundary.branch [
-  | in-Idle w ↦
-      let inside = c.self.inside in
-      let r = whole inside.regs inside.flags in
-      let row : row_of (rules_of g.P.Ports) c.args.self.now ≡ rows.Idle =
-      subst (λ (x : Machine _). row_of (rules_of g.P.Ports) x ≡ rows.Idle) c.self.view_is
-      (subst (λ (wants : Bool). boundary_rows inside.activity wants (hits_here r) r inside.latches ≡ rows.Idle) c.wants_interrupt-wants.ensures (w.in-Idle.ensures inside.flags (hits_here r))) in
-      idled (rules_of g.P.Ports) policy c.args.self.now c.finish.new.self row
-      (subst (λ (x : Machine _). EndsBy (g.P.Ports.asks x.board) (rules_of g.P.Ports) x c.finish.new.self) w.self-is c.finish.ensures.ends)
-  | in-Execute+else-not-execute w ↦ stepped (rules_of g.P.Ports) policy c.args.self.now w.execute.new.self c.finish.new.self w.if-not-execute.ensures.row (w.if-not-execute.ensures.made policy meets)
-      (subst (λ (x : Machine _). EndsBy (g.P.Ports.asks x.board) (rules_of g.P.Ports) x c.finish.new.self) w.self-is c.finish.ensures.ends)
-]
+returns-clause-made g c = λ policy meets.
+    let inside = c.self.inside in
+    let told_is : told c.boundary-row.result ≡ boundary_rows c.args.self.now.state.core.activity (g.P.Ports.wants c.args.self.now.board) 0 c.args.self.now.state.core.regs c.args.self.now.state.core.latches =
+    subst (λ (x : Machine _). told c.boundary-row.result ≡ boundary_rows x.state.core.activity (g.P.Ports.wants x.board) 0 x.state.core.regs x.state.core.latches) c.self.view_is
+    (subst (λ (wants : Bool). told c.boundary-row.result ≡ boundary_rows inside.activity wants 0 (whole inside.regs inside.flags) inside.latches) c.wants_interrupt-wants.ensures (c.boundary-row.ensures inside.flags)) in
+    let cover : is_covered c.args.self.now.state.core.regs ≡ true = subst (λ (x : Machine _). is_covered x.state.core.regs ≡ true) c.self.view_is (sym (c.is_covered.ensures inside.flags) ∙ c.if-not-is_covered.false) in
+    let mid = c.take-wrote.new.self in
+    stepped (rules_of g.P.Ports) policy (told c.boundary-row.result) c.args.self.now mid c.finish-2.new.self (covered_row (rules_of g.P.Ports) c.args.self.now (told c.boundary-row.result) told_is cover)
+    (some_turn (rules_of g.P.Ports) g.L.Linear.pick policy meets c.args.self.now mid cover c.take-wrote.ensures.served (told c.boundary-row.result) c.if-is_idle.ensures.busy
+    c.take-wrote.ensures.taken) c.finish-2.ensures.ends
