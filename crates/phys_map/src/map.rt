@@ -52,6 +52,13 @@ impl PhysMap {
         let _ = &self.ram;
     }
 
+    /// How many bytes of RAM there are.
+    pub fn ram_len(&self) -> u32
+        ensures { result ≡ length self.now.ram }
+    {
+        self.ram.size()
+    }
+
     /// The byte at a place of the list of RAM, whatever the line A20 is.
     pub fn ram_byte(&self, at: u32) -> u8
         requires { at < length self.now.ram }

@@ -44,6 +44,20 @@ impl Tlb {
         }
     }
 
+    /// Whether paging is on.
+    pub fn is_paged(&self) -> bool
+        ensures { result ≡ self.now.paging }
+    {
+        self.paging
+    }
+
+    /// CR3, as the walks have it.
+    pub fn cr3(&self) -> u32
+        ensures { result ≡ self.now.cr3 }
+    {
+        self.cr3
+    }
+
     /// The memory map, as it is under what is held.
     pub fn phys(&self) -> &PhysMap
         ensures { result.now ≡ self.now.physical }

@@ -1,0 +1,62 @@
+//! The machine, a step and an event of it.
+
+ghost use Rattle.std.specs.Prelude.{◌≡◌, ◌<◌, ◌+◌, ◌^◌, true, false};
+ghost use Rattle.std.specs.Bool.{OnTrue, OnFalse};
+ghost use Rattle.mdl_state.specs.PolicyLaws.{plain_item_meets};
+ghost use Rattle.mdl_step.specs.RunLaws.{SomeStep};
+ghost use Rattle.mdl_step.specs.Step.{IsUnbuilt};
+ghost use Rattle.mdl_step.specs.Computer.{board_rules, run_policy, happens};
+
+use board::Board;
+use cpu_core::Cpu;
+use mdl_state::{Event, EventKind};
+use std::marker::Model;
+use tlb::Tlb;
+
+/// The processor over its memory and the board.
+///
+/// Between two steps the line A20 of memory is that of the board.
+#[derive(Drop)]
+pub struct Pc {
+    pub(crate) cpu: Cpu<Tlb, Board>,
+}
+
+impl Model for Pc {
+    ghost use Rattle.std.specs.Prelude.{◌≡◌};
+    ghost use Rattle.mdl_state.specs.Machine.{Machine};
+    ghost use Rattle.mdl_board.specs.Board.{BoardState, gate_of};
+
+    ghost Value = { Machine BoardState };
+
+    ghost view = { λ p. p.cpu };
+
+    ghost invariant = { λ p. gate_of p.cpu.board ≡ p.cpu.state.mem.physical.a20 };
+}
+
+impl Pc {
+    /// Makes one step. Answers false where the next step is not built, and then changes nothing.
+    pub fn step(&mut self) -> bool
+        requires { self.old.state.core.steps < 10 ^ 15 }
+        ensures made { OnTrue result (SomeStep board_rules run_policy self.old self.new) }
+        ensures count { OnTrue result (self.new.state.core.steps ≡ self.old.state.core.steps + 1) }
+        ensures unbuilt { OnFalse result (IsUnbuilt board_rules run_policy self.old) }
+        ensures unchanged { OnFalse result (self.new ≡ self.old) }
+    {
+        self.cpu.step()
+    }
+
+    /// What happens from outside, now, whatever the event's count is.
+    pub fn event(&mut self, event: Event)
+        ensures { self.new ≡ happens event.kind self.old }
+    {
+        match event.kind {
+            EventKind::Key(byte) => self.cpu.ports_mut().key(byte),
+            EventKind::Pulse(count) => self.cpu.ports_mut().pulses(count),
+            EventKind::Nmi => self.cpu.nmi(),
+            EventKind::Reset => {
+                self.cpu.ports_mut().reset();
+                self.cpu.reset();
+            }
+        }
+    }
+}

@@ -1,0 +1,74 @@
+//! Runs, with events at their counts of steps.
+
+ghost use Rattle.std.specs.Prelude.{◌≡◌, ◌≤◌, ◌<◌, ◌+◌, ◌^◌, drop, length, IfOk, IfErr, OnOk, OnErr, IfSome};
+ghost use Rattle.mdl_text.specs.Script.{RisesFrom};
+ghost use Rattle.mdl_step.specs.Run.{after_events};
+ghost use Rattle.mdl_step.specs.Computer.{board_rules, on_board};
+ghost use Rattle.pc_machine.specs.Runs.{due_by, RanFor, StopsBefore};
+ghost use Rattle.pc_machine.specs.EventLaws.{Split, next_at};
+
+use crate::pc::Pc;
+use mdl_state::Event;
+
+/// A run that ended early: the next step is not built.
+#[derive(Clone, Copy, Debug, PartialEq, Eq)]
+pub struct Unbuilt {
+    /// How many events were applied.
+    pub applied: usize,
+}
+
+/// The event at an index, where it has this count.
+fn next_event(events: &[Event], at: usize, count: u64) -> Option<Event>
+    ensures next { result ≡ next_at count (drop at events.now) }
+    ensures inside { IfSome result (λ _. at < length events.now) }
+{
+    if at < events.len() && events[at].at == count {
+        Some(events[at])
+    } else {
+        None
+    }
+}
+
+impl Pc {
+    /// Applies the events of the present count of steps, from an index on, and answers the index
+    /// behind them.
+    #[tactic(auto, using(crate::specs::EventLaws::events))]
+    fn apply(&mut self, events: &[Event], from: usize) -> usize
+        requires split { Split self.old.state.core.steps self.old.state.core.steps events.now from }
+        ensures applied { self.new ≡ after_events board_rules on_board events.now self.old }
+        ensures split { Split (self.new.state.core.steps + 1) (self.new.state.core.steps + 1) events.now result }
+        ensures steps { self.new.state.core.steps ≡ self.old.state.core.steps }
+    {
+        let mut done = from;
+        while let Some(event) = next_event(events, done, self.steps()) {
+            self.event(event);
+            done += 1;
+        }
+        done
+    }
+
+    /// Makes so many steps. An event is applied when the count of steps is its own, before the next
+    /// step, in the list's order; those of the last count are applied behind the last step, and later
+    /// ones never. Answers how many events were applied.
+    ///
+    /// Where it comes to a step that is not built, it stops there, with the events of that count
+    /// applied.
+    pub fn run(&mut self, events: &[Event], steps: u64) -> Result<usize, Unbuilt>
+        requires count { self.old.state.core.steps + steps ≤ 10 ^ 15 }
+        requires rises { RisesFrom self.old.state.core.steps events.now }
+        ensures ran { OnOk result (RanFor events.now steps self.old self.new) }
+        ensures count { OnOk result (self.new.state.core.steps ≡ self.old.state.core.steps + steps) }
+        ensures applied { IfOk result (λ applied. applied ≡ due_by self.new.state.core.steps events.now) }
+        ensures stopped { OnErr result (StopsBefore events.now steps self.old self.new) }
+        ensures stopped_applied { IfErr result (λ stop. stop.applied ≡ due_by self.new.state.core.steps events.now) }
+    {
+        let mut applied = self.apply(events, 0);
+        for _step in 0..steps {
+            if !self.step() {
+                return Err(Unbuilt { applied });
+            }
+            applied = self.apply(events, applied);
+        }
+        Ok(applied)
+    }
+}
