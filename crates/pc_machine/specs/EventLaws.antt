@@ -1,16 +1,19 @@
 -- Laws of events that are gone through by an index, and of a run that is cut in two.
 use Rattle.std.specs.Prelude.{◌≡◌, ℕ, suc, zero, ◌+◌, ◌<◌, ◌==◌, if◌then◌else◌, List, [], ◌∷◌, drop, Option, Some, None, refl}
-use Rattle.std.proofs.Common.{ap, sym, subst, arith, inl, inr}
+use Rattle.std.proofs.Common.{ap, sym, subst, ◌∙◌, arith, inl, inr}
 use Rattle.std.proofs.lemmas.Bool.Decides.{eqb_tells, leb_tells}
 use Rattle.mdl_state.specs.declared.Event.{Event}
 use Rattle.mdl_state.specs.declared.EventKind.{EventKind}
+use Rattle.mdl_state.specs.declared.EventKind.TheVariants.{Key, Pulse, Nmi, Reset}
 use Rattle.mdl_state.specs.Machine.{Machine}
 use Rattle.mdl_board.specs.Board.{BoardState}
 use Rattle.mdl_text.specs.Script.{RisesFrom}
 use Rattle.mdl_step.specs.Run as run
 use Rattle.mdl_step.specs.Run.{events_at}
-use Rattle.mdl_step.specs.Computer.{board_rules, on_board, happens}
-use Rattle.pc_machine.specs.Runs.{due_by}
+use Rattle.mdl_step.specs.RunLaws.{StepsFor, walks_in}
+use Rattle.mdl_step.specs.Step.{IsUnbuilt}
+use Rattle.mdl_step.specs.Computer.{board_rules, on_board, happens, run_policy}
+use Rattle.pc_machine.specs.Runs.{due_by, RanFor, StopsBefore}
 
 -- events one after the other
 abbrev all_applied : List Event → Machine BoardState → Machine BoardState
@@ -156,5 +159,37 @@ split_count k (e ∷ es) (suc i) h = elim (leb_tells e.at k) as (λ _. suc i ≡
   | inl q ↦ rw q.0 (ap suc (split_count k es i h.1))
   | inr q ↦ absurd (omega (arith, h.0, q.1))
 ]
+
+-- ---- runs
+
+-- events are no walks
+event_walks : (kind : EventKind) (m : Machine BoardState) → (happens kind m).state.mem.walks ≡ m.state.mem.walks
+event_walks (Key byte) m = refl
+event_walks (Pulse count) m = refl
+event_walks Nmi m = refl
+event_walks Reset m = refl
+
+events_walk : (events es : List Event) (m : Machine BoardState) → (run.all_applied board_rules on_board events es m).state.mem.walks ≡ m.state.mem.walks
+events_walk events [] m = refl
+events_walk events (e ∷ es) m = events_walk events es (happens e.kind m) ∙ event_walks e.kind m
+
+-- steps behind the first events are a run
+pub ran_for : (events : List Event) (steps : ℕ) (m n : Machine BoardState) → StepsFor board_rules on_board events run_policy steps (after_events events m) n → RanFor events steps m n
+ran_for events steps m n s = record {
+  choices = s.choices;
+  as_many = s.count;
+  run = s.ran;
+  walks = s.walks ∙ ap (walks_in s.choices) (events_walk events (events_at m.state.core.steps events) m);
+}
+
+-- and where the next step is not built, one that ends there
+pub stops : (events : List Event) (steps done : ℕ) (m mid n : Machine BoardState) → n ≡ mid → done < steps → StepsFor board_rules on_board events run_policy done (after_events events m) mid → mid.state.core.steps ≡ m.state.core.steps + done → IsUnbuilt board_rules run_policy mid → StopsBefore events steps m n
+stops events steps done m mid n same before s count unbuilt = subst (StopsBefore events steps m) (sym same) (record {
+  done = done;
+  before = before;
+  ran = ran_for events done m mid s;
+  count = count;
+  unbuilt = unbuilt;
+})
 
 pub ruleset events = (widened, due_start, due_next, due_end, split_next, split_end)

@@ -37,12 +37,6 @@ pub enum BuildError {
     DiskLength(u32),
 }
 
-impl From<AllocError> for BuildError {
-    fn from(_error: AllocError) -> BuildError {
-        BuildError::Memory
-    }
-}
-
 /// Whether a ROM may have so many bytes.
 fn is_rom_length(bytes: usize) -> bool
     ensures { IsTrue result ↔ IsRomLength bytes }
@@ -88,7 +82,9 @@ impl Pc {
         if !is_disk_length(disk.len()) {
             return Err(BuildError::DiskLength(disk.len() as u32));
         }
-        let ram = empty_ram(alloc, ram_mib)?;
+        let Ok(ram) = empty_ram(alloc, ram_mib) else {
+            return Err(BuildError::Memory);
+        };
         let memory = Tlb::new(PhysMap::new(ram, rom));
         Ok(Pc {
             cpu: Cpu::new(memory, Board::new(disk)),

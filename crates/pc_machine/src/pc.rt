@@ -23,10 +23,14 @@ pub struct Pc {
 
 impl Model for Pc {
     ghost use Rattle.std.specs.Prelude.{◌≡◌};
+    ghost use Rattle.std.specs.Coded.{codes};
+    ghost use Rattle.mdl_state.specs.Codes.{mem_code};
     ghost use Rattle.mdl_state.specs.Machine.{Machine};
     ghost use Rattle.mdl_board.specs.Board.{BoardState, gate_of};
 
     ghost Value = { Machine BoardState };
+
+    ghost coded = { Prim.hlevel (codes, mem_code) };
 
     ghost view = { λ p. p.cpu };
 
