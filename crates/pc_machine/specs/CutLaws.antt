@@ -18,7 +18,9 @@ use Rattle.mdl_cpu.specs.declared.Cause.{Cause}
 use Rattle.mdl_board.specs.Board.{BoardState}
 use Rattle.mdl_text.specs.Script.{RisesFrom}
 use Rattle.mdl_step.specs.Boundary.{Boundary, Idle, Trap, Break, Nmi as NmiRow, Line, Execute}
-use Rattle.mdl_step.specs.Delivering.{Arrival, deliver, arrived, delivered, fault_cause, with_address}
+use Rattle.mdl_cpu.specs.Causes.{fault_cause, with_address}
+use Rattle.mdl_cpu.specs.Delivery.{Arrival, deliver}
+use Rattle.mdl_step.specs.Delivering.{arrived, delivered}
 use Rattle.mdl_step.specs.Fetching.{Code, Instruction, Refused}
 use Rattle.mdl_step.specs.Step.{Step, Does, EndsBy, Comes, Executes, row_of, passed_by, faulted, executed, attempted, behind, completed, Delivers, at_trap, at_break, at_nmi}
 use Rattle.mdl_step.specs.Run as run
@@ -159,10 +161,13 @@ steps_same some others (choice ∷ choices) m n same ran =
     let mid = ran.0 in
     let count = step_counts board_rules run_policy m choice mid ran.1 in
     let after = after_same some others mid (same mid.state.core.steps (omega (arith, count))) in
-    let still = events_count others (events_at mid.state.core.steps others) mid in
-    (mid, ran.1, steps_same some others choices (after_events others mid) n
-        (λ j p. same j (omega (arith, p, still, count)))
-        (subst (λ x. Steps board_rules on_board some run_policy x choices n) after ran.2))
+    let still = events_count others (events_at mid.state.core.steps others) mid in (
+      mid,
+      ran.1,
+      steps_same some others choices (after_events others mid) n
+          (λ j p. same j (omega (arith, p, still, count)))
+          (subst (λ x. Steps board_rules on_board some run_policy x choices n) after ran.2),
+    )
 
 steps_join : (events : List Event) (first second : List Choice) (m mid n : Machine BoardState) → Steps board_rules on_board events run_policy m first mid → Steps board_rules on_board events run_policy mid second n → Steps board_rules on_board events run_policy m (first ++ second) n
 steps_join events [] second m mid n one two = subst (λ x. Steps board_rules on_board events run_policy x second n) one two

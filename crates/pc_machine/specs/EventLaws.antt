@@ -183,7 +183,7 @@ ran_for events steps m n s = record {
 }
 
 -- and where the next step is not built, one that ends there
-pub stops : (events : List Event) (steps done : ℕ) (m mid n : Machine BoardState) → n ≡ mid → done < steps → StepsFor board_rules on_board events run_policy done (after_events events m) mid → mid.state.core.steps ≡ m.state.core.steps + done → IsUnbuilt board_rules run_policy mid → StopsBefore events steps m n
+pub stops : (events : List Event) (steps done : ℕ) (m mid n : Machine BoardState) → n ≡ mid → done < steps → StepsFor board_rules on_board events run_policy done (after_events events m) mid → mid.state.core.steps ≡ m.state.core.steps + done → IsUnbuilt board_rules mid → StopsBefore events steps m n
 stops events steps done m mid n same before s count unbuilt = subst (StopsBefore events steps m) (sym same) (record {
   done = done;
   before = before;

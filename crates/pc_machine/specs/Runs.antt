@@ -27,4 +27,4 @@ pub record StopsBefore (events : List Event) (steps : ℕ) (m n : Machine BoardS
   pub before : done < steps
   pub ran : RanFor events done m n
   pub count : n.state.core.steps ≡ m.state.core.steps + done
-  pub unbuilt : IsUnbuilt board_rules run_policy n
+  pub unbuilt : IsUnbuilt board_rules n

@@ -5,6 +5,7 @@
 #![tactic(auto)]
 
 mod building;
+mod laws;
 mod looking;
 mod pc;
 mod running;
@@ -12,5 +13,6 @@ mod running;
 mod tests;
 
 pub use building::BuildError;
+pub use laws::{a_run_goes_on_with_the_rest_of_the_events, a_run_may_be_cut_anywhere};
 pub use pc::Pc;
 pub use running::Unbuilt;

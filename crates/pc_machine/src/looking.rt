@@ -146,8 +146,9 @@ impl Pc {
         requires row { row < 25 }
         requires column { col < 80 }
         ensures { result ≡ (
-            byte_at self.now.state.mem.physical (cell_address (start_of self.now.board) (80 * row + col)),
-            byte_at self.now.state.mem.physical (cell_address (start_of self.now.board) (80 * row + col) + 1)) }
+          byte_at self.now.state.mem.physical (cell_address (start_of self.now.board) (80 * row + col)),
+          byte_at self.now.state.mem.physical (cell_address (start_of self.now.board) (80 * row + col) + 1),
+        ) }
     {
         let start = 0x100 * u32::from(self.crt(START_HIGH)) + u32::from(self.crt(START_LOW));
         let cell = COLUMNS * u32::from(row) + u32::from(col);

@@ -43,7 +43,7 @@ impl Pc {
         requires { self.old.state.core.steps < 10 ^ 15 }
         ensures made { OnTrue result (SomeStep board_rules run_policy self.old self.new) }
         ensures count { OnTrue result (self.new.state.core.steps ≡ self.old.state.core.steps + 1) }
-        ensures unbuilt { OnFalse result (IsUnbuilt board_rules run_policy self.old) }
+        ensures unbuilt { OnFalse result (IsUnbuilt board_rules self.old) }
         ensures unchanged { OnFalse result (self.new ≡ self.old) }
     {
         self.cpu.step()

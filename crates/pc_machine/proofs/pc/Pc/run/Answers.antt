@@ -8,7 +8,7 @@ use Rattle.pc_machine.proofs.pc.Pc.run.Goals as goal
 pub returns-then-not-step-clause-stopped : goal.returns-then-not-step-clause-stopped
 returns-then-not-step-clause-stopped c = let held = c.loop-step.invariant in
     stops c.args.events.now c.args.steps c.loop-step._step c.args.self.now c.loop-step.self c.step.new.self
-        c.if-not-step.ensures.unchanged c.loop-step-test.true held.ran held.steps c.if-not-step.ensures.unbuilt
+    c.if-not-step.ensures.unchanged c.loop-step-test.true held.ran held.steps c.if-not-step.ensures.unbuilt
 
 pub returns-then-not-step-clause-stopped_applied :
     goal.returns-then-not-step-clause-stopped_applied
