@@ -1,5 +1,5 @@
 -- Laws of a run that is cut in two: each step counts one, and the second part needs the rest of the events alone.
-use Rattle.std.specs.Prelude.{◌≡◌, ℕ, suc, zero, ◌+◌, ◌<◌, ◌≤◌, Bool, true, false, List, [], ◌∷◌, ◌++◌, drop, length, refl}
+use Rattle.std.specs.Prelude.{◌≡◌, ℕ, suc, ◌+◌, ◌<◌, ◌≤◌, Bool, true, false, List, [], ◌∷◌, ◌++◌, drop, refl}
 use Rattle.std.proofs.Common.{ap, sym, subst, ◌∙◌, arith, inl, inr, length-append}
 use Rattle.std.proofs.lemmas.Bool.Decides.{eqb_tells, leb_tells}
 use Rattle.mdl_state.specs.declared.Event.{Event}
@@ -22,13 +22,13 @@ use Rattle.mdl_cpu.specs.Causes.{fault_cause, with_address}
 use Rattle.mdl_cpu.specs.Delivery.{Arrival, deliver}
 use Rattle.mdl_step.specs.Delivering.{arrived, delivered}
 use Rattle.mdl_step.specs.Fetching.{Code, Instruction, Refused}
-use Rattle.mdl_step.specs.Step.{Step, Does, EndsBy, Comes, Executes, row_of, passed_by, faulted, executed, attempted, behind, completed, Delivers, at_trap, at_break, at_nmi}
+use Rattle.mdl_step.specs.Step.{Step, Does, EndsBy, Comes, row_of, passed_by, faulted, executed, attempted, behind, completed, Delivers, at_trap, at_break, at_nmi}
 use Rattle.mdl_step.specs.Run as run
 use Rattle.mdl_step.specs.Run.{events_at, Steps}
 use Rattle.mdl_step.specs.RunLaws.{StepsFor, walks_in}
 use Rattle.mdl_step.specs.Computer.{board_rules, on_board, happens, run_policy}
 use Rattle.pc_machine.specs.Runs.{due_by, RanFor}
-use Rattle.pc_machine.specs.EventLaws.{after_events}
+use Rattle.pc_machine.specs.EventLaws.{after_events, applies_same, later_none, none_by}
 
 -- ---- a step counts one
 
@@ -88,19 +88,12 @@ module _ {B : Type 0} (rules : Rules B) (policy : Policy) where
 
 -- ---- the rest of the events
 
-none_due : (k n : ℕ) (es : List Event) → k < n → RisesFrom n es → due_by k es ≡ 0
-none_due k n [] l h = refl
-none_due k n (e ∷ es) l h = elim (leb_tells e.at k) as (λ _. due_by k (e ∷ es) ≡ 0) [
-  | inl q ↦ absurd (omega (arith, l, h.0, q.1))
-  | inr q ↦ rw q.0 (none_due k e.at es (omega (arith, l, h.0)) h.1)
-]
-
 -- those behind the events that are due rise from the next count
 pub rest_rises : (k n : ℕ) (es : List Event) → RisesFrom n es → RisesFrom (k + 1) (drop (due_by k es) es)
 rest_rises k n [] h = tt
 rest_rises k n (e ∷ es) h = elim (leb_tells e.at k) as (λ _. RisesFrom (k + 1) (drop (due_by k (e ∷ es)) (e ∷ es))) [
   | inl q ↦ rw q.0 (rest_rises k e.at es h.1)
-  | inr q ↦ rw (q.0, none_due k e.at es q.1 h.1) (omega (arith, q.1), h.1)
+  | inr q ↦ rw (q.0, none_by k e.at es q.1 h.1) (omega (arith, q.1), h.1)
 ]
 
 -- and are all that come at later counts
@@ -108,7 +101,7 @@ pub rest_same : (k n j : ℕ) (es : List Event) → k < j → RisesFrom n es →
 rest_same k n j [] l h = refl
 rest_same k n j (e ∷ es) l h = elim (leb_tells e.at k) as (λ _. events_at j (drop (due_by k (e ∷ es)) (e ∷ es)) ≡ events_at j (e ∷ es)) [
   | inl q ↦ rw q.0 (rest_same k e.at j es l h.1 ∙ later q.1)
-  | inr q ↦ rw (q.0, none_due k e.at es q.1 h.1) refl
+  | inr q ↦ rw (q.0, none_by k e.at es q.1 h.1) refl
 ]
   where
     later : e.at ≤ k → events_at j es ≡ events_at j (e ∷ es)
@@ -122,7 +115,7 @@ pub due_more : (k l n : ℕ) (es : List Event) → k ≤ l → RisesFrom n es �
 due_more k l n [] p h = refl
 due_more k l n (e ∷ es) p h = elim (leb_tells e.at k) as (λ _. due_by l (e ∷ es) ≡ due_by k (e ∷ es) + due_by l (drop (due_by k (e ∷ es)) (e ∷ es))) [
   | inl q ↦ rw (q.0, soon q.1) (omega (arith, due_more k l e.at es p h.1))
-  | inr q ↦ rw (q.0, none_due k e.at es q.1 h.1) (omega arith)
+  | inr q ↦ rw (q.0, none_by k e.at es q.1 h.1) (omega arith)
 ]
   where
     soon : e.at ≤ k → due_by l (e ∷ es) ≡ suc (due_by l es)
@@ -143,10 +136,6 @@ event_counts Reset m = refl
 events_count : (events es : List Event) (m : Machine BoardState) → (run.all_applied board_rules on_board events es m).state.core.steps ≡ m.state.core.steps
 events_count events [] m = refl
 events_count events (e ∷ es) m = events_count events es (happens e.kind m) ∙ event_counts e.kind m
-
-applies_same : (some others es : List Event) (m : Machine BoardState) → run.all_applied board_rules on_board some es m ≡ run.all_applied board_rules on_board others es m
-applies_same some others [] m = refl
-applies_same some others (e ∷ es) m = applies_same some others es (happens e.kind m)
 
 -- from this count on two lists have the same events
 abbrev SameFrom : ℕ → List Event → List Event → Type 0
@@ -199,15 +188,8 @@ ran_on events k steps m n rises ran = record {
     rest : List Event
     rest = rest_at here events
 
-    none_at : (p j : ℕ) (es : List Event) → j < p → RisesFrom p es → events_at j es ≡ []
-    none_at p j [] l h = refl
-    none_at p j (e ∷ es) l h = elim (eqb_tells e.at j) as (λ _. events_at j (e ∷ es) ≡ []) [
-      | inl q ↦ absurd (omega (arith, l, h.0, q.1))
-      | inr q ↦ rw q.0 (none_at e.at j es (omega (arith, l, h.0)) h.1)
-    ]
-
     none : after_events rest m ≡ m
-    none = ap (λ es. run.all_applied board_rules on_board rest es m) (none_at (here + 1) here rest (omega arith) (rest_rises here k events rises))
+    none = ap (λ es. run.all_applied board_rules on_board rest es m) (later_none here (here + 1) rest (omega arith) (rest_rises here k events rises))
 
 -- A run of some steps, and then a run with the rest of the events, are a run of all the steps.
 pub cut : (events : List Event) (k first second : ℕ) (m mid n : Machine BoardState) → RisesFrom k events → RanFor events first m mid → RanFor (rest_at mid.state.core.steps events) second mid n → RanFor events (first + second) m n

@@ -43,7 +43,8 @@ abbrev IsSome : Option Event → Type 0
 IsSome None = ⊥
 IsSome (Some x) = Unit {0}
 
-later_none : (k n : ℕ) (es : List Event) → k < n → RisesFrom n es → events_at k es ≡ []
+-- none have a count below that of the first
+pub later_none : (k n : ℕ) (es : List Event) → k < n → RisesFrom n es → events_at k es ≡ []
 later_none k n [] l h = refl
 later_none k n (e ∷ es) l h = elim (eqb_tells e.at k) as (λ _. events_at k (e ∷ es) ≡ []) [
   | inl q ↦ absurd (omega (arith, l, h.0, q.1))
@@ -78,13 +79,14 @@ after_events events m = run.after_events board_rules on_board events m
 abbrev pub after_due : ℕ → List Event → Machine BoardState → Machine BoardState
 after_due k es m = all_applied (due k es) m
 
-apply_same : (events es : List Event) (m : Machine BoardState) → run.all_applied board_rules on_board events es m ≡ all_applied es m
-apply_same events [] m = refl
-apply_same events (e ∷ es) m = apply_same events es (happens e.kind m)
+-- what is done by events is the same whatever list they are taken from
+pub applies_same : (some others es : List Event) (m : Machine BoardState) → run.all_applied board_rules on_board some es m ≡ run.all_applied board_rules on_board others es m
+applies_same some others [] m = refl
+applies_same some others (e ∷ es) m = applies_same some others es (happens e.kind m)
 
 -- what is still to be done at the start is all that there is
 pub due_start : (es : List Event) (i : ℕ) (m : Machine BoardState) → Split m.state.core.steps m.state.core.steps es i → after_due m.state.core.steps (drop i es) m ≡ after_events es m
-due_start es i m h = subst (λ (xs : List Event). all_applied xs m ≡ after_events es m) (at_due m.state.core.steps es i h) (sym (apply_same es (events_at m.state.core.steps es) m))
+due_start es i m h = subst (λ (xs : List Event). all_applied xs m ≡ after_events es m) (at_due m.state.core.steps es i h) (applies_same [] es (events_at m.state.core.steps es) m)
 
 next_front : (k : ℕ) (es : List Event) (e : Event) (m : Machine BoardState) → next_at k es ≡ Some e → after_due k es m ≡ after_due k (drop 1 es) (happens e.kind m)
 next_front k [] e m h = absurd (subst IsNone h tt)
@@ -144,7 +146,8 @@ split_end k (e ∷ es) zero h p = elim (eqb_tells e.at k) as (λ _. RisesFrom (k
 split_end k [] (suc i) h p = absurd p
 split_end k (e ∷ es) (suc i) h p = (p.0, split_end k es i h p.1)
 
-none_by : (k n : ℕ) (es : List Event) → k < n → RisesFrom n es → due_by k es ≡ 0
+-- none are due by a count below that of the first
+pub none_by : (k n : ℕ) (es : List Event) → k < n → RisesFrom n es → due_by k es ≡ 0
 none_by k n [] l h = refl
 none_by k n (e ∷ es) l h = elim (leb_tells e.at k) as (λ _. due_by k (e ∷ es) ≡ 0) [
   | inl q ↦ absurd (omega (arith, l, h.0, q.1))

@@ -1,3 +1,4 @@
+pub mod Settled
 pub mod Builds
 pub mod Runs
 pub mod EventLaws

@@ -2,10 +2,10 @@
 
 ghost use Rattle.std.specs.Prelude.{◌≡◌, ◌<◌, ◌+◌, ◌^◌, true, false};
 ghost use Rattle.std.specs.Bool.{OnTrue, OnFalse};
-ghost use Rattle.mdl_state.specs.PolicyLaws.{plain_item_meets};
 ghost use Rattle.mdl_step.specs.RunLaws.{SomeStep};
 ghost use Rattle.mdl_step.specs.Step.{IsUnbuilt};
 ghost use Rattle.mdl_step.specs.Computer.{board_rules, run_policy, happens};
+ghost use Rattle.pc_machine.specs.Settled.{IsSettled};
 
 use board::Board;
 use cpu_core::Cpu;
@@ -14,19 +14,17 @@ use std::marker::Model;
 use tlb::Tlb;
 
 /// The processor over its memory and the board.
-///
-/// Between two steps the line A20 of memory is that of the board.
 #[derive(Drop)]
 pub struct Pc {
     pub(crate) cpu: Cpu<Tlb, Board>,
 }
 
 impl Model for Pc {
-    ghost use Rattle.std.specs.Prelude.{◌≡◌};
     ghost use Rattle.std.specs.Coded.{codes};
     ghost use Rattle.mdl_state.specs.Codes.{mem_code};
     ghost use Rattle.mdl_state.specs.Machine.{Machine};
-    ghost use Rattle.mdl_board.specs.Board.{BoardState, gate_of};
+    ghost use Rattle.mdl_board.specs.Board.{BoardState};
+    ghost use Rattle.pc_machine.specs.Settled.{IsSettled};
 
     ghost Value = { Machine BoardState };
 
@@ -34,10 +32,17 @@ impl Model for Pc {
 
     ghost view = { λ p. p.cpu };
 
-    ghost invariant = { λ p. gate_of p.cpu.board ≡ p.cpu.state.mem.physical.a20 };
+    ghost invariant = { λ p. IsSettled p.cpu };
 }
 
 impl Pc {
+    /// What always holds between two steps.
+    pub fn settled(&self)
+        ensures { IsSettled self.now }
+    {
+        let _ = &self.cpu;
+    }
+
     /// Makes one step. Answers false where the next step is not built, and then changes nothing.
     pub fn step(&mut self) -> bool
         requires { self.old.state.core.steps < 10 ^ 15 }

@@ -141,7 +141,7 @@ fn a_reset_puts_chips_and_processor_at_boot_and_leaves_ram(rt: HostRuntime) -> R
     assert_eq!(rt; pc.crt(0x0C), 0);
     assert_eq!(rt; pc.phys_byte(0x101234), 0xFF);
     assert_eq!(rt; pc.phys_byte(0xFFFF_FFF0), 0xE9);
-    assert_eq!(rt; pc.byte(0x1234), 0xAA);
+    assert_eq!(rt; pc.phys_byte(0x1234), 0xAA);
     assert_eq!(rt; pc.regs().eip, 0xFFF0);
     assert_eq!(rt; pc.steps(), 9);
     Ok(())

@@ -1,7 +1,7 @@
-use Rattle.std.proofs.Common.{◌≡◌, ◌+◌, ℕ, arith, subst, sym}
+use Rattle.std.proofs.Common.{ℕ, arith, subst}
 use Rattle.mdl_step.specs.RunLaws.{steps_more}
 use Rattle.mdl_step.specs.Computer.{board_rules, on_board, run_policy}
-use Rattle.pc_machine.specs.Runs.{due_by, RanFor}
+use Rattle.pc_machine.specs.Runs.{RanFor}
 use Rattle.pc_machine.specs.EventLaws.{after_events, ran_for, stops, split_count}
 use Rattle.pc_machine.proofs.pc.Pc.run.Goals as goal
 
