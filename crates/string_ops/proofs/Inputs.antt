@@ -1,5 +1,5 @@
 -- What comes of INS, by what comes of its destination.
-use Rattle.std.proofs.Common.{◌≡◌, ℕ, true, sym, ap, ◌∙◌}
+use Rattle.std.proofs.Common.{◌≡◌, ℕ, true}
 use Rattle.mdl_state.specs.declared.Place.{Place}
 use Rattle.mdl_state.specs.declared.Fault.{Fault}
 use Rattle.mdl_state.specs.declared.Access.TheVariants.{Write}

@@ -1,4 +1,4 @@
-use Rattle.std.proofs.Common.{rules, ◌≡◌, ℕ, refl, sym}
+use Rattle.std.proofs.Common.{rules}
 use Rattle.mdl_effect.specs.StringEffects.{iterate_plan}
 use Rattle.string_ops.proofs.iterations.iterate.Goals as goal
 

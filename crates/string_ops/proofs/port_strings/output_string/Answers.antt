@@ -1,4 +1,4 @@
-use Rattle.std.proofs.Common.{rules, ◌≡◌, ℕ, refl, sym}
+use Rattle.std.proofs.Common.{rules, refl}
 use Rattle.mdl_state.specs.Rules.{attempts}
 use Rattle.mdl_effect.specs.Operands.{NoPort, Writes}
 use Rattle.mdl_effect.specs.StringEffects.{output_string_plan}

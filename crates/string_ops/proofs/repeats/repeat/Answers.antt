@@ -1,4 +1,4 @@
-use Rattle.std.proofs.Common.{rules, sym, ap, ◌∙◌}
+use Rattle.std.proofs.Common.{rules, ap, ◌∙◌}
 use Rattle.mdl_state.specs.Serving.{by_pick}
 use Rattle.mdl_state.specs.Rules.{attempts}
 use Rattle.lazy_flags.specs.Keeper.{with_status}
