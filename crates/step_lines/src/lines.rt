@@ -1,7 +1,7 @@
 //! A line's steps, and what they leave.
 
-use crate::steps::step;
-use mdl_state::{Hidden, Regs};
+use crate::steps::{Stepped, step};
+use mdl_state::{Fault, Hidden, Next, Regs};
 use tlb::Tlb;
 
 /// The access byte of a data segment for every level, which may be written.
@@ -52,10 +52,10 @@ const HEAD: usize = 12;
 /// The numbers of a line.
 const NUMBERS: usize = HEAD + CODE;
 
-/// What the steps of a line leave: the vector of the fault that ended them, and the registers.
+/// What the steps of a line leave: the fault that ended them, and the registers.
 #[derive(Clone, Copy)]
 pub struct Answer {
-    pub fault: Option<u8>,
+    pub fault: Option<Fault>,
     pub regs: Regs,
 }
 
@@ -101,7 +101,17 @@ fn regs_of(numbers: &[u32; NUMBERS], big: bool) -> Regs {
     regs
 }
 
-/// The steps of a line, or nothing where one is of another instruction.
+/// A software interrupt as a fault, which has no error code.
+fn software_interrupt(vector: u8) -> Fault {
+    Fault {
+        vector,
+        code: 0,
+        addr: 0,
+    }
+}
+
+/// The steps of a line, or nothing where one is of no instruction that a crate runs. A software
+/// interrupt ends them as a fault does, with EIP behind it.
 pub fn answer_of(memory: &mut Tlb, line: &str) -> Option<Answer> {
     let numbers = numbers_of(line);
     let big = numbers[0] == 1;
@@ -109,12 +119,19 @@ pub fn answer_of(memory: &mut Tlb, line: &str) -> Option<Answer> {
     let start = regs.eip;
     for _ in 0..numbers[1] {
         let code = code_at(&numbers, regs.eip.wrapping_sub(start));
-        if let Err(fault) = step(&mut regs, memory, &code, big)? {
-            return Some(Answer {
-                fault: Some(fault.vector),
-                regs,
-            });
-        }
+        let Stepped { ran, back } = step(&mut regs, memory, &code, big)?;
+        let fault = match ran {
+            Ok(Next::Soft(vector)) => {
+                regs.eip = back;
+                software_interrupt(vector)
+            }
+            Ok(_) => continue,
+            Err(fault) => fault,
+        };
+        return Some(Answer {
+            fault: Some(fault),
+            regs,
+        });
     }
     Some(Answer { fault: None, regs })
 }

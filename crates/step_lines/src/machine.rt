@@ -1,6 +1,6 @@
 //! A machine for examples: zeros, with data at 10000h in DS, at 20000h in ES, and a stack at 30000h.
 
-use crate::steps::step;
+use crate::steps::{Stepped, step};
 use crate::window::blank_memory;
 use mdl_state::{Fault, Hidden, Next, Regs, Size, Who};
 use mem_iface::Linear;
@@ -90,13 +90,17 @@ impl Machine {
     /// then that is no general one, nor EIP, EFLAGS or CR0.
     pub fn step(&mut self, code: &[u8]) -> (Option<Result<Next, Fault>>, bool) {
         let before = self.regs;
-        let ran = step(&mut self.regs, &mut self.memory, code, self.big);
+        let stepped = step(&mut self.regs, &mut self.memory, code, self.big);
         let others = Regs {
             gpr: before.gpr,
             eip: before.eip,
             eflags: before.eflags,
             cr0: before.cr0,
             ..self.regs
+        };
+        let ran = match stepped {
+            Some(Stepped { ran, .. }) => Some(ran),
+            None => None,
         };
         (ran, others != before)
     }

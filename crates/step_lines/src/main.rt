@@ -3,11 +3,11 @@
 //! A line has numbers: 1 where code and stack are of 32 bits, how many steps are made, EFLAGS, EIP, the
 //! eight registers, and the 15 bytes from CS:EIP on, behind which every byte of code is a NOP. Each
 //! segment has the base 0 and the limit FFFFh, and the byte at `n` is the low byte of
-//! `n * 167 + n / 256 * 13 + 91`. The answer is `other` where a step is no data instruction, none of the
-//! flow and the stack, and no string; else what comes of the last step, as `ok` or the fault's vector,
-//! EFLAGS, EIP and the registers, and then a line with each offset whose byte is another, and that
-//! byte. Every byte is then put back. `tools/check-vectors` compares such answers with steps of a real
-//! processor.
+//! `n * 167 + n / 256 * 13 + 91`. No port has anything behind it. The answer is `other` where no crate
+//! runs the instruction of a step; else what comes of the last step, as `ok` or the vector and the
+//! error code of its fault or its software interrupt, EFLAGS, EIP and the registers, and then a line
+//! with each offset whose byte is another, and that byte. Every byte is then put back.
+//! `tools/check-vectors` compares such answers with steps of a real processor.
 //!
 //! A line that begins with no digit is one of a worked example, by hand from the manual, chapter 17: it
 //! is printed again, and behind it what comes of it. Such a line has an act and numbers in hexadecimal.
@@ -46,7 +46,7 @@ fn main(rt: HostRuntime) -> io::Result<()> {
                 let [a, c, d, b, sp, bp, si, di] = regs.gpr;
                 match fault {
                     None => print!(rt; "ok")?,
-                    Some(vector) => print!(rt; "{vector}")?,
+                    Some(fault) => print!(rt; "{}:{}", fault.vector, fault.code)?,
                 }
                 println!(rt;
                     " {} {} {a} {c} {d} {b} {sp} {bp} {si} {di}",

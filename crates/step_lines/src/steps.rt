@@ -1,25 +1,31 @@
 //! One step, by the crate that runs its instruction.
 
-ghost use Rattle.std.specs.Prelude.{◌≡◌, ℕ, List, [], Bool, true, false, IsTrue, IfSome, OnOk, OnErr};
+ghost use Rattle.std.specs.Prelude.{◌≡◌, ℕ, List, [], Bool, true, false, IsTrue, IfSome, IfOk, OnOk, OnErr};
 ghost use Rattle.mdl_insn.specs.Spelling.{Spelt};
 ghost use Rattle.mdl_state.specs.Serving.{by_pick};
 ghost use Rattle.mdl_state.specs.Accesses.{committed, discarded};
 ghost use Rattle.mdl_state.specs.Attempt.{tried};
+ghost use Rattle.mem_iface.specs.Rules.{rules_of};
 ghost use Rattle.mdl_cpu.specs.Segments.{has_protection};
 ghost use Rattle.mdl_effect.specs.FarEffects.{runs_far, far_effect};
+ghost use Rattle.mdl_effect.specs.SystemEffects.{runs_system, system_effect};
+ghost use Rattle.mdl_effect.specs.Operands.{PortUse};
+ghost use Rattle.mdl_effect.specs.Ports.{Accesses};
 ghost use Rattle.mdl_step.specs.Effects.{effect};
 ghost use Rattle.mdl_step.specs.Step.{landed};
-ghost use Rattle.operands.specs.Whole.{whole, ran};
+ghost use Rattle.operands.specs.Whole.{whole, ran, ran_at};
 ghost use Rattle.step_lines.specs.Families.{Belongs, is_of_real_mode};
 
 use exec_data::runs_data;
 use exec_far::runs_far;
 use exec_flow::runs_flow;
-use insn_decode::decode_slice;
+use exec_system::runs_system;
+use insn_decode::{SliceError, decode_slice};
 use lazy_flags::Flags;
 use mdl_insn::Insn;
 use mdl_state::{Fault, Next, Regs};
-use mem_iface::Linear;
+use mem_iface::{Linear, NoPorts, Ports};
+use operands::{general_protection, no_such};
 use string_ops::runs_string;
 
 /// How many bytes may be held: so many where none is.
@@ -35,6 +41,7 @@ enum Family {
     Flow,
     Strings,
     Far,
+    System,
 }
 
 /// The crate that runs an instruction.
@@ -53,29 +60,36 @@ fn family_of(insn: &Insn) -> Option<Family>
     if runs_far(insn) {
         return Some(Family::Far);
     }
+    if runs_system(insn) {
+        return Some(Family::System);
+    }
     None
 }
 
-/// The instruction at the front of these bytes, its length, and the crate that runs it.
-fn instruction_of(code: &[u8], big: bool) -> Option<(Insn, u8, Family)>
-    ensures spelt { IfSome result (λ x. (bytes : List ℕ) × (size : Bool) × Spelt bytes size x.0) }
-    ensures family { IfSome result (λ x. Belongs x.2 x.0) }
+/// The instruction at the front of these bytes, its length, and the crate that runs it; or the fault
+/// of bytes that are none.
+fn instruction_of(code: &[u8], big: bool) -> Option<Result<(Insn, u8, Family), Fault>>
+    ensures spelt { IfSome result (λ found. IfOk found (λ x. (bytes : List ℕ) × (size : Bool) × Spelt bytes size x.0)) }
+    ensures family { IfSome result (λ found. IfOk found (λ x. Belongs x.2 x.0)) }
 {
     match decode_slice(code, big) {
         Ok((insn, count)) => match family_of(&insn) {
-            Some(family) => Some((insn, count, family)),
+            Some(family) => Some(Ok((insn, count, family))),
             None => None,
         },
-        Err(_) => None,
+        Err(SliceError::Undefined) => Some(Err(no_such())),
+        Err(SliceError::TooLong) => Some(Err(general_protection(0))),
+        Err(SliceError::Short) => None,
     }
 }
 
-/// Data and far instructions run in real mode. The others do so too, but for a stack of 32 bits.
+/// Data instructions, far ones and those of the system run in real mode. The others do so too, but
+/// for a stack of 32 bits.
 fn set_mode(regs: &mut Regs, family: Family, big: bool)
     ensures { is_of_real_mode family ≡ true → has_protection regs.new ≡ false }
 {
     regs.cr0 = match family {
-        Family::Data | Family::Far => 0,
+        Family::Data | Family::Far | Family::System => 0,
         Family::Flow | Family::Strings => { if big { PROTECTION } else { 0 } }
     };
 }
@@ -105,12 +119,39 @@ fn run_far<L: Linear>(
     Ok(next)
 }
 
-/// An instruction in an attempt, by its crate. `back` is the EIP behind it.
-#[tactic(auto, using(mdl_step::proofs::EffectLaws::effects))]
-fn execute<L: Linear>(
+/// An instruction of the system, which has EFLAGS whole.
+#[tactic(auto, using(crate::proofs::Packed::packed))]
+fn run_system<L: Linear, P: Ports>(
     regs: &mut Regs,
     flags: &mut Flags,
     lin: &mut L,
+    ports: &mut P,
+    insn: &Insn,
+    back: u32,
+) -> Result<Next, Fault>
+    requires spelt { (bytes : List ℕ) × (big : Bool) × Spelt bytes big insn.now }
+    requires runs { IsTrue (runs_system insn.now) }
+    requires held { (L.seen lin.old).held ≡ [] }
+    ensures run { (given : ℕ) × (access : PortUse) × Accesses (rules_of P.Ports) access given ports.old ports.new
+        × ((ran_at result access (whole regs.new flags.new), L.seen lin.new)
+        ≡ tried (by_pick L.pick) given (system_effect insn.now (whole regs.old flags.old) back) (L.seen lin.old)) }
+    ensures unchanged { OnErr result ((regs.new ≡ regs.old) × (flags.new ≡ flags.old) × (ports.new ≡ ports.old)) }
+{
+    let mut packed = *regs;
+    packed.eflags = flags.pack(regs.eflags);
+    let next = exec_system::run(&mut packed, lin, ports, insn, back)?;
+    *flags = Flags::unpack(packed.eflags);
+    *regs = packed;
+    Ok(next)
+}
+
+/// An instruction in an attempt, by its crate. `back` is the EIP behind it.
+#[tactic(auto, using(mdl_step::proofs::EffectLaws::effects))]
+fn execute<L: Linear, P: Ports>(
+    regs: &mut Regs,
+    flags: &mut Flags,
+    lin: &mut L,
+    ports: &mut P,
     insn: &Insn,
     family: Family,
     back: u32,
@@ -119,15 +160,17 @@ fn execute<L: Linear>(
     requires family { Belongs family insn.now }
     requires mode { is_of_real_mode family ≡ true → has_protection regs.old ≡ false }
     requires held { (L.seen lin.old).held ≡ [] }
-    ensures run { (ran result (whole regs.new flags.new), L.seen lin.new)
-        ≡ tried (by_pick L.pick) 0 (effect insn.now (whole regs.old flags.old) back (whole regs.new flags.new).eflags) (L.seen lin.old) }
-    ensures unchanged { OnErr result ((regs.new ≡ regs.old) × (flags.new ≡ flags.old)) }
+    ensures run { (given : ℕ) × (access : PortUse) × Accesses (rules_of P.Ports) access given ports.old ports.new
+        × ((ran_at result access (whole regs.new flags.new), L.seen lin.new)
+        ≡ tried (by_pick L.pick) given (effect insn.now (whole regs.old flags.old) back (whole regs.new flags.new).eflags) (L.seen lin.old)) }
+    ensures unchanged { OnErr result ((regs.new ≡ regs.old) × (flags.new ≡ flags.old) × (ports.new ≡ ports.old)) }
 {
     match family {
         Family::Data => exec_data::run(regs, flags, lin, insn, back),
         Family::Flow => exec_flow::run(regs, flags, lin, insn, back),
-        Family::Strings => string_ops::run(regs, flags, lin, insn),
+        Family::Strings => string_ops::run(regs, flags, lin, ports, insn),
         Family::Far => run_far(regs, flags, lin, insn, back),
+        Family::System => run_system(regs, flags, lin, ports, insn, back),
     }
 }
 
@@ -152,26 +195,36 @@ fn finish<L: Linear>(lin: &mut L, ran: &Result<Next, Fault>)
     }
 }
 
-/// One step of the instruction at the front of these bytes: what follows, or its fault; nothing
-/// where no crate runs it.
-pub fn step<L: Linear>(
-    regs: &mut Regs,
-    lin: &mut L,
-    code: &[u8],
-    big: bool,
-) -> Option<Result<Next, Fault>> {
-    let (insn, count, family) = instruction_of(code, big)?;
+/// A step: what follows its instruction, or its fault, and the EIP behind it.
+#[derive(Clone, Copy)]
+pub struct Stepped {
+    pub ran: Result<Next, Fault>,
+    pub back: u32,
+}
+
+/// One step of the instruction at the front of these bytes; nothing where no crate runs it.
+pub fn step<L: Linear>(regs: &mut Regs, lin: &mut L, code: &[u8], big: bool) -> Option<Stepped> {
+    let (insn, count, family) = match instruction_of(code, big)? {
+        Ok(found) => found,
+        Err(fault) => {
+            let back = regs.eip;
+            return Some(Stepped {
+                ran: Err(fault),
+                back,
+            });
+        }
+    };
     if lin.room() < ROOM {
         return None;
     }
     set_mode(regs, family, big);
     let back = regs.eip.wrapping_add(count as u32);
     let mut flags = Flags::unpack(regs.eflags);
-    let ran = execute(regs, &mut flags, lin, &insn, family, back);
+    let ran = execute(regs, &mut flags, lin, &mut NoPorts, &insn, family, back);
     if let Ok(next) = ran {
         land(regs, next, back);
     }
     finish(lin, &ran);
     regs.eflags = flags.pack(regs.eflags);
-    Some(ran)
+    Some(Stepped { ran, back })
 }
