@@ -1,4 +1,7 @@
-pub mod Options
-pub mod Listings
-pub mod Outcomes
-pub mod Screen
+pub mod Slots
+pub mod Feeding
+pub mod Writing
+pub mod Runs
+pub mod Ending
+pub mod Complete
+pub mod Demos

@@ -1,9 +1,12 @@
-pub mod Powered
-pub mod Words
+pub mod Slots
+pub mod Inputs
 pub mod Headline
 pub mod Listed
+pub mod Demonstrated
 pub mod Refusals
-pub mod Commands
+pub mod Causes
 pub mod Answers
-pub mod Lines
+pub mod Feeding
+pub mod Running
+pub mod Writing
 pub mod FileHost

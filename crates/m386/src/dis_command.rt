@@ -1,41 +1,42 @@
 //! The command `dis`.
 
-ghost use Rattle.std.specs.Prelude.{◌≡◌, ◌≢◌, ℕ, List, [], IfErr, OnOk};
-ghost use Rattle.host_io.specs.declared.host.InSlot.TheVariants.{Rom};
+ghost use Rattle.std.specs.Prelude.{◌≡◌, IfErr, OnOk};
 ghost use Rattle.host_io.specs.declared.host.OutSlot.TheVariants.{Report};
-ghost use Rattle.host_io.specs.declared.host.Slot.{Slot};
-ghost use Rattle.host_io.specs.declared.host.Slot.TheVariants.{In, Out};
-ghost use Rattle.host_io.specs.Slots.{Same, SameBut};
-ghost use Rattle.m386.specs.Words.{ToList, IsDis, dis_of};
+ghost use Rattle.host_io.specs.declared.host.Slot.TheVariants.{Out};
+ghost use Rattle.host_io.specs.Slots.{Same};
+ghost use Rattle.command_words.specs.Jobs.{Dis, dis_of};
+ghost use Rattle.m386.specs.Slots.{Keeps, path_for};
 ghost use Rattle.m386.specs.Listed.{Listed};
-ghost use Rattle.m386.specs.Commands.{IsRefused, OpenedOnly};
+ghost use Rattle.m386.specs.Causes.{AreCounted, IsReady, IsRefused};
 
-use crate::listing::write_listing;
+use crate::inputs::read_input;
 use crate::refusals::Refusal;
-use crate::rom::read_rom;
-use crate::words::DisJob;
-use host_io::{Host, OutSlot, Slot};
+use command_words::DisJob;
+use host_io::{Host, InSlot, OutSlot, Slot};
+use reports::write_listing;
 use std::alloc::Global;
 
 /// Reads the ROM, and writes its listing.
 pub(crate) fn dis_command<H: Host>(alloc: Global, host: &mut H, job: &DisJob) -> Result<(), Refusal>
-    ensures ok { OnOk result ((words : List (List ℕ)) → IsDis words (dis_of job.now) → Listed words
-        (H.left host.old Rom) (H.took host.old Report) (H.took host.new Report)
-        (H.path host.new (In Rom)) (H.path host.new (Out Report))) }
+    ensures ok { OnOk result (Listed (dis_of job.now) (H.left host.old) (H.took host.old) (H.took host.new) (H.path host.old) (H.path host.new)) }
     ensures kept { OnOk result (Same (H.faults host.old) (H.faults host.new)) }
-    ensures err { IfErr result (IsRefused (ToList (dis_of job.now)) (H.left host.old Rom)
-        (H.took host.old Report) (H.took host.new Report) (H.faults host.old) (H.faults host.new)) }
-    ensures outputs { SameBut Report (H.took host.old) (H.took host.new) }
-    ensures rom_path { OpenedOnly (H.path host.old (In Rom)) (H.path host.new (In Rom)) job.now.path.now }
-    ensures report_path { OpenedOnly (H.path host.old (Out Report)) (H.path host.new (Out Report)) [] }
-    ensures unopened { (slot : Slot) → slot ≢ In Rom → slot ≢ Out Report → H.path host.new slot ≡ H.path host.old slot }
+    ensures refused { IfErr result (IsRefused (Dis (dis_of job.now)) (H.left host.old) (H.took host.old) (H.took host.new)) }
+    ensures counted { IfErr result (λ refusal. AreCounted refusal (H.faults host.old) (H.faults host.new)) }
+    ensures ready { IfErr result (λ refusal. IsReady refusal (H.path host.new (Out Report))) }
+    ensures keeps { Keeps (path_for (Dis (dis_of job.now))) (H.left host.old) (H.left host.new) (H.path host.old) (H.path host.new) }
 {
-    let rom = read_rom(alloc, host, job.path)?;
+    let rom = read_input(alloc, host, InSlot::Rom, job.rom)?;
     let Ok(()) = host.open_out(OutSlot::Report, "") else {
         return Err(Refusal::HostFault(Slot::Out(OutSlot::Report)));
     };
-    match write_listing(host, rom.as_slice(), job.from, job.count, job.big) {
+    match write_listing(
+        host,
+        rom.as_slice(),
+        u64::from(job.from),
+        u64::from(job.count),
+        job.big,
+    ) {
         Ok(()) => Ok(()),
-        Err(_) => Err(Refusal::Cut),
+        Err(_) => Err(Refusal::Late(OutSlot::Report)),
     }
 }

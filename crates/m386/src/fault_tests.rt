@@ -33,6 +33,28 @@ fn list(alloc: Global, host: &mut MemHost) -> Status {
     m386(alloc, &["dis", "--rom", "rom.bin"], host)
 }
 
+/// The bytes of a mebibyte.
+const MEBIBYTE: u32 = 0x100000;
+
+/// How many bytes of RAM are written in a call.
+const PIECE: usize = 0x10000;
+
+/// A run with all options.
+const ALL: [&str; 15] = [
+    "run", "--rom", "rom.bin", "--disk", "disk.bin", "--script", "keys", "--ram", "1", "--steps",
+    "1", "--mem", "mem.bin", "--save", "save.bin",
+];
+
+/// A host with an input for each option of a run, and room for each output.
+fn full_host(alloc: Global) -> Result<MemHost, AllocError> {
+    let mut host = host(alloc)?;
+    host.put(InSlot::Disk, vec![in alloc; 0xA5; 512]?);
+    host.put(InSlot::Script, vec![in alloc; b'#'; 8]?);
+    host.make_room(OutSlot::Mem, MEBIBYTE)?;
+    host.make_room(OutSlot::Save, 512)?;
+    Ok(host)
+}
+
 const ROM_LINE: &str = "m386: host fault at rom\n";
 
 const REPORT_LINE: &str = "m386: host fault at report\n";
@@ -77,6 +99,54 @@ fn a_failing_call_is_told_behind_what_the_report_has(rt: HostRuntime) -> Result<
             ),
             "call {call}"
         );
+    }
+    Ok(())
+}
+
+/// How many pieces of RAM are written before a call, where the first is written in the 14th.
+fn pieces_before(call: u64) -> usize {
+    (call.saturating_sub(14) as usize).min(16)
+}
+
+// Three calls on each input, three on the report, one and 16 on RAM, and two on the disk.
+#[test]
+fn each_failing_call_of_a_run_is_told_with_its_slot(rt: HostRuntime) -> Result<(), Fail> {
+    let mut whole = full_host(rt.alloc())?;
+    assert_eq!(rt; m386(rt.alloc(), &ALL, &mut whole), Status::Done);
+    assert_eq!(rt; whole.taken(OutSlot::Save).len(), 512);
+    for (first, behind, lines, line) in [
+        (1, 4, 0, "m386: host fault at rom\n"),
+        (4, 7, 0, "m386: host fault at disk\n"),
+        (7, 10, 0, "m386: host fault at script\n"),
+        (10, 12, 0, "m386: host fault at report\n"),
+        (12, 13, 17, "m386: host fault at report\n"),
+        (13, 30, 42, "m386: host fault at mem\n"),
+        (30, 32, 42, "m386: host fault at save\n"),
+    ] {
+        for call in first..behind {
+            let mut host = full_host(rt.alloc())?;
+            host.fail_at(call)?;
+            assert_eq!(rt;
+                m386(rt.alloc(), &ALL, &mut host),
+                Status::HostFault,
+                "call {call}"
+            );
+            assert!(rt;
+                is_cut(
+                    host.taken(OutSlot::Report),
+                    whole.taken(OutSlot::Report),
+                    lines,
+                    line
+                ),
+                "call {call}"
+            );
+            assert_eq!(rt;
+                host.taken(OutSlot::Mem).len(),
+                PIECE * pieces_before(call),
+                "call {call}"
+            );
+            assert!(rt; host.taken(OutSlot::Save).is_empty(), "call {call}");
+        }
     }
     Ok(())
 }

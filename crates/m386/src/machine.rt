@@ -1,77 +1,49 @@
-//! The machine of a run: built, and run for so many steps.
+//! The machine of a job, after its run.
 
-ghost use Rattle.std.specs.Prelude.{◌≡◌, ◌≤◌, ◌<◌, ◌^◌, ◌*◌, [], length, IfOk, IfErr, OnOk, true};
-ghost use Rattle.mdl_state.specs.Boot.{empty_ram};
+ghost use Rattle.std.specs.Prelude.{◌≡◌, ◌≤◌, ◌^◌, length, IfOk, IfErr};
 ghost use Rattle.mdl_state.specs.Memory.{IsRomLength};
-ghost use Rattle.mdl_state.specs.Policy.{meets_plain};
-ghost use Rattle.mdl_step.specs.RunLaws.{StepsFor};
-ghost use Rattle.phys_map.specs.Sound.{IsBlank};
-ghost use Rattle.m386.specs.Powered.{no_board, unmoved, powered};
-ghost use Rattle.m386.specs.Refusals.{code_byte, StopsAt};
+ghost use Rattle.mdl_dev.specs.Disk.{IsDiskLength};
+ghost use Rattle.mdl_text.specs.Script.{RisesFrom};
+ghost use Rattle.m386.specs.Causes.{code_byte};
+ghost use Rattle.m386.specs.Feeding.{fed_of};
+ghost use Rattle.m386.specs.Running.{RanTo, StopsAt};
 
+use crate::inputs::Inputs;
 use crate::refusals::Refusal;
-use cpu_core::Cpu;
-use guest_ram::Ram;
 use mdl_state::Seg;
-use mem_iface::NoPorts;
-use phys_map::PhysMap;
-use seg_unit::segment;
-use std::alloc::{AllocError, Global};
-use tlb::Tlb;
+use pc_machine::Pc;
+use std::alloc::Global;
 
-/// The bytes of a mebibyte.
-const MEBIBYTE: u32 = 0x100000;
+/// CS, among the segment registers.
+const CS: usize = 1;
 
-/// How many mebibytes of RAM the machine has.
-const RAM_MEBIBYTES: u32 = 4;
-
-/// The machine of a run: the processor over its memory, with no board.
-pub(crate) type Machine = Cpu<Tlb, NoPorts>;
-
-/// RAM of so many mebibytes, all zero.
-#[tactic(auto, using(phys_map::specs::SoundLaws::zeros_blank), unfolding(mdl_state::specs::Boot::empty_ram))]
-fn empty_ram(alloc: Global, mebibytes: u32) -> Result<Ram, AllocError>
-    requires { mebibytes ≤ 64 }
-    ensures zero { IfOk result (λ ram. ram ≡ empty_ram mebibytes) }
-    ensures length { IfOk result (λ ram. length ram ≡ mebibytes * 0x100000) }
-    ensures blank { IfOk result (λ ram. IsBlank ram) }
+/// The byte at the physical address CS base + EIP.
+#[tactic(auto, unfolding(crate::specs::Causes::code_byte, mdl_state::specs::Registers::seg_of))]
+fn code_byte(pc: &Pc) -> u8
+    ensures { result ≡ code_byte pc.now.state.mem.physical pc.now.state.core.regs }
 {
-    let ram = Ram::new(alloc, mebibytes * MEBIBYTE)?;
-    Ok(ram)
+    let regs = pc.regs();
+    pc.phys_byte(regs.seg[CS].base.wrapping_add(regs.eip))
 }
 
-/// The machine at boot with this ROM.
-pub(crate) fn boot(alloc: Global, rom: Vec<u8>) -> Result<Machine, AllocError>
-    requires { IsRomLength (length rom.items) }
-    ensures { IfOk result (λ machine. machine ≡ powered rom.items) }
+/// The machine that is fed with these inputs, after so many steps from power on. All memory is taken
+/// before the first step.
+pub(crate) fn run(alloc: Global, ram: u8, inputs: Inputs, steps: u64) -> Result<Pc, Refusal>
+    requires least { 1 ≤ ram }
+    requires most { ram ≤ 64 }
+    requires rom { IsRomLength (length inputs.rom.items) }
+    requires disk { IsDiskLength (length inputs.disk.items) }
+    requires rises { RisesFrom 0 inputs.events.items }
+    requires steps { steps ≤ 10 ^ 15 }
+    ensures ok { IfOk result (RanTo ram (fed_of inputs) steps) }
+    ensures err { IfErr result (StopsAt ram (fed_of inputs) steps) }
 {
-    let ram = empty_ram(alloc, RAM_MEBIBYTES)?;
-    Ok(Cpu::new(Tlb::new(PhysMap::new(ram, rom)), NoPorts))
-}
-
-/// The byte at CS:EIP, while paging is off.
-#[tactic(auto, unfolding(crate::specs::Refusals::code_byte))]
-fn code_byte(machine: &Machine) -> u8
-    ensures { result ≡ code_byte machine.now.state.mem.physical machine.now.state.core.regs }
-{
-    let regs = machine.regs();
-    let at = segment(&regs, Seg::Cs).base.wrapping_add(regs.eip);
-    machine.lin().phys().byte(at)
-}
-
-/// Makes so many steps, or stops at the first that is not built.
-pub(crate) fn run(machine: &mut Machine, steps: u64) -> Result<(), Refusal>
-    requires some { steps < 2 ^ 63 }
-    requires boot { machine.old.state.core.steps ≡ 0 }
-    requires a20 { machine.old.state.mem.physical.a20 ≡ true }
-    ensures made { OnOk result (StepsFor no_board unmoved [] meets_plain steps machine.old machine.new) }
-    ensures count { OnOk result (machine.new.state.core.steps ≡ steps) }
-    ensures unbuilt { IfErr result (StopsAt machine.old steps) }
-{
-    for step in 0..steps {
-        if !machine.step() {
-            return Err(Refusal::Unbuilt(step, code_byte(machine)));
-        }
+    let Inputs { rom, disk, events } = inputs;
+    let Ok(mut pc) = Pc::new(alloc, ram, rom, disk) else {
+        return Err(Refusal::Memory);
+    };
+    match pc.run(events.as_slice(), steps) {
+        Ok(_) => Ok(pc),
+        Err(_) => Err(Refusal::Unbuilt(pc.steps(), code_byte(&pc))),
     }
-    Ok(())
 }

@@ -2,23 +2,22 @@
 //! standard input and standard output.
 //!
 //! The one contract used above is the headline on the top call `m386`. Read `specs/Headline.antt`
-//! first, then `specs/Listed.antt`, `specs/Words.antt` and `specs/Answers.antt`.
+//! first, then `specs/Listed.antt`, `specs/Inputs.antt`, `specs/Causes.antt` and `specs/Answers.antt`.
 #![tactic(auto)]
 
+mod demo_command;
 mod dis_command;
 #[cfg(test)]
 mod fault_tests;
 mod file_host;
-mod listing;
+mod inputs;
 mod machine;
+mod outputs;
 mod refusals;
-mod report;
-mod rom;
 mod run_command;
 mod status;
-mod texts;
 mod top;
-mod words;
+mod view;
 
 use file_host::FileHost;
 use status::Status;

@@ -1,37 +1,40 @@
 //! The refusals of a command, and the line of each.
 
-ghost use Rattle.std.specs.Prelude.{◌≡◌, ◌≢◌, ◌≤◌, ◌+◌, ◌++◌, [], length, OnOk, OnErr};
+ghost use Rattle.std.specs.Prelude.{◌≡◌, ◌≢◌, ◌≤◌, ◌+◌, ◌++◌, [], Some, length, OnOk, OnErr};
 ghost use Rattle.std.specs.Io.KnownBytes.{Appends};
 ghost use Rattle.arrayvec.specs.ArrayVec.{array_vec_len};
 ghost use Rattle.host_io.specs.declared.host.OutSlot.TheVariants.{Report};
 ghost use Rattle.host_io.specs.declared.host.Slot.TheVariants.{Out};
 ghost use Rattle.host_io.specs.Causes.{HasCause};
-ghost use Rattle.host_io.specs.Slots.{Same, SameBut};
+ghost use Rattle.host_io.specs.Slots.{Same, SameBut, WasOpened};
 ghost use Rattle.host_io.specs.Transfers.{AppendsPrefix};
+ghost use Rattle.m386.specs.Slots.{OpenedOnly};
+ghost use Rattle.m386.specs.Refusals.{slot_name, fault_line, length_line, script_line, unbuilt_line, line_of, status_of};
 ghost use Rattle.m386.specs.Answers.{IsTold};
-ghost use Rattle.m386.specs.Commands.{OpenedOnly};
-ghost use Rattle.m386.specs.Refusals.{slot_name, fault_line, length_line, unbuilt_line, line_of, status_of};
+ghost use Rattle.m386.specs.Causes.{IsReady};
 
 use crate::status::Status;
-use crate::texts::{ROOM, push_byte, push_decimal, push_text};
 use arrayvec::ArrayVec;
 use host_io::{Failed, Host, InSlot, OutSlot, Slot, write_all};
+use reports::{ROOM, push_byte, push_decimal, push_text};
 
 /// Why a command was not done.
 #[derive(Clone, Copy, Debug, PartialEq, Eq)]
 pub(crate) enum Refusal {
     /// Memory was wanting.
     Memory,
-    /// The words ask for nothing that there is.
+    /// The words ask for no command that is there.
     Words,
     /// A call on a slot failed before the report was open.
     HostFault(Slot),
-    /// The ROM has this length, or a greater one where this is above the limit.
-    RomLength(u64),
+    /// An input has this length, or a greater one where this is above the limit.
+    Length(InSlot, u32),
+    /// This line of the script is the first bad one.
+    Script(u32),
     /// The run comes, after so many steps, to one that is not built, and this byte stands at CS:EIP.
     Unbuilt(u64, u8),
-    /// A call on the open report failed.
-    Cut,
+    /// A call on an output failed, with the report open.
+    Late(OutSlot),
 }
 
 /// A slot's name.
@@ -61,14 +64,24 @@ fn push_fault(text: &mut ArrayVec<u8, ROOM>, slot: Slot)
 }
 
 #[tactic(auto, unfolding(crate::specs::Refusals::length_line))]
-fn push_length(text: &mut ArrayVec<u8, ROOM>, slot: Slot, n: u64)
+fn push_length(text: &mut ArrayVec<u8, ROOM>, slot: Slot, n: u32)
     requires { array_vec_len text.old + 64 ≤ ROOM }
     ensures { text.new.items ≡ text.old.items ++ length_line slot n }
 {
     push_text(text, b"m386: ");
     push_text(text, slot_name(slot).as_bytes());
     push_text(text, b" length ");
-    push_decimal(text, n);
+    push_decimal(text, u64::from(n));
+    push_text(text, b"\n");
+}
+
+#[tactic(auto, unfolding(crate::specs::Refusals::script_line))]
+fn push_script(text: &mut ArrayVec<u8, ROOM>, n: u32)
+    requires { array_vec_len text.old + 64 ≤ ROOM }
+    ensures { text.new.items ≡ text.old.items ++ script_line n }
+{
+    push_text(text, b"m386: script line ");
+    push_decimal(text, u64::from(n));
     push_text(text, b"\n");
 }
 
@@ -94,9 +107,10 @@ fn line_of(refusal: Refusal) -> ArrayVec<u8, ROOM>
         Refusal::Memory => {}
         Refusal::Words => push_text(&mut text, b"m386: bad words\n"),
         Refusal::HostFault(slot) => push_fault(&mut text, slot),
-        Refusal::RomLength(n) => push_length(&mut text, Slot::In(InSlot::Rom), n),
+        Refusal::Length(slot, n) => push_length(&mut text, Slot::In(slot), n),
+        Refusal::Script(n) => push_script(&mut text, n),
         Refusal::Unbuilt(steps, byte) => push_unbuilt(&mut text, steps, byte),
-        Refusal::Cut => push_fault(&mut text, Slot::Out(OutSlot::Report)),
+        Refusal::Late(slot) => push_fault(&mut text, Slot::Out(slot)),
     }
     text
 }
@@ -108,32 +122,39 @@ fn status_of(refusal: Refusal) -> Status
         Refusal::Memory => Status::Memory,
         Refusal::Words => Status::Usage,
         Refusal::HostFault(_) => Status::HostFault,
-        Refusal::RomLength(_) => Status::Image,
+        Refusal::Length(_, _) => Status::Image,
+        Refusal::Script(_) => Status::Script,
         Refusal::Unbuilt(_, _) => Status::Unbuilt,
-        Refusal::Cut => Status::HostFault,
+        Refusal::Late(_) => Status::HostFault,
     }
 }
 
 /// Opens the report, if it is not open yet.
 fn open_report<H: Host>(host: &mut H, refusal: Refusal) -> Result<(), Failed>
-    ensures path { OpenedOnly (H.path host.old (Out Report)) (H.path host.new (Out Report)) [] }
+    requires { IsReady refusal (H.path host.old (Out Report)) }
+    ensures opened { OnOk result (WasOpened (H.path host.new (Out Report)) []) }
+    ensures path { OpenedOnly (Some []) (H.path host.old (Out Report)) (H.path host.new (Out Report)) }
     ensures paths { SameBut (Out Report) (H.path host.old) (H.path host.new) }
     ensures took { Same (H.took host.old) (H.took host.new) }
+    ensures left { Same (H.left host.old) (H.left host.new) }
     ensures cause { HasCause (H.faults host.old) (H.faults host.new) (Out Report) result }
 {
     match refusal {
-        Refusal::Cut => Ok(()),
+        Refusal::Late(_) => Ok(()),
         _ => host.open_out(OutSlot::Report, ""),
     }
 }
 
 /// Tries to write the line of a refusal.
 fn write_line<H: Host>(host: &mut H, refusal: Refusal) -> Result<(), Failed>
+    requires { IsReady refusal (H.path host.old (Out Report)) }
     ensures ok { OnOk result (Appends (H.took host.old Report) (H.took host.new Report) (line_of refusal)) }
+    ensures opened { OnOk result (WasOpened (H.path host.new (Out Report)) []) }
     ensures err { OnErr result (AppendsPrefix (H.took host.old Report) (H.took host.new Report) (line_of refusal)) }
     ensures outputs { SameBut Report (H.took host.old) (H.took host.new) }
-    ensures path { OpenedOnly (H.path host.old (Out Report)) (H.path host.new (Out Report)) [] }
+    ensures path { OpenedOnly (Some []) (H.path host.old (Out Report)) (H.path host.new (Out Report)) }
     ensures paths { SameBut (Out Report) (H.path host.old) (H.path host.new) }
+    ensures left { Same (H.left host.old) (H.left host.new) }
     ensures cause { HasCause (H.faults host.old) (H.faults host.new) (Out Report) result }
 {
     open_report(host, refusal)?;
@@ -142,14 +163,16 @@ fn write_line<H: Host>(host: &mut H, refusal: Refusal) -> Result<(), Failed>
 
 /// Tells a refusal by its line, which is tried once, and answers its status.
 pub(crate) fn refuse<H: Host>(host: &mut H, refusal: Refusal) -> Status
+    requires { IsReady refusal (H.path host.old (Out Report)) }
     ensures status { result ≡ status_of refusal }
     ensures line { refusal ≢ Refusal.Memory → IsTold (H.took host.old Report) (H.took host.new Report)
-        (H.faults host.old (Out Report)) (H.faults host.new (Out Report)) (line_of refusal) }
+        (H.path host.new (Out Report)) (H.faults host.old (Out Report)) (H.faults host.new (Out Report)) (line_of refusal) }
     ensures silent { refusal ≡ Refusal.Memory → Same (H.took host.old) (H.took host.new) }
     ensures memory { refusal ≡ Refusal.Memory → Same (H.faults host.old) (H.faults host.new) }
     ensures outputs { SameBut Report (H.took host.old) (H.took host.new) }
-    ensures path { OpenedOnly (H.path host.old (Out Report)) (H.path host.new (Out Report)) [] }
+    ensures path { OpenedOnly (Some []) (H.path host.old (Out Report)) (H.path host.new (Out Report)) }
     ensures paths { SameBut (Out Report) (H.path host.old) (H.path host.new) }
+    ensures left { Same (H.left host.old) (H.left host.new) }
     ensures faults { SameBut (Out Report) (H.faults host.old) (H.faults host.new) }
     ensures later { H.faults host.old (Out Report) ≤ H.faults host.new (Out Report) }
 {

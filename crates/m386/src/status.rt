@@ -1,7 +1,7 @@
 //! How a command ends.
 
 ghost use Rattle.std.specs.Prelude.{◌≡◌};
-ghost use Rattle.m386.specs.Answers.{number_of};
+ghost use Rattle.m386.specs.Refusals.{number_of};
 
 /// How a command ended.
 #[derive(Clone, Copy, Debug, PartialEq, Eq)]
@@ -10,12 +10,14 @@ pub enum Status {
     Done,
     /// Memory was wanting, and no output has grown.
     Memory,
-    /// The words ask for nothing that there is.
+    /// The words ask for no command that is there.
     Usage,
     /// A call of the host failed.
     HostFault,
-    /// The ROM has no length of one.
+    /// An image, or the script, has no length of one.
     Image,
+    /// The script has a bad line.
+    Script,
     /// The run comes to a step that is not built.
     Unbuilt,
 }
@@ -31,6 +33,7 @@ impl Status {
             Status::Usage => 2,
             Status::HostFault => 3,
             Status::Image => 4,
+            Status::Script => 5,
             Status::Unbuilt => 6,
         }
     }

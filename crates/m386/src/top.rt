@@ -1,90 +1,85 @@
 //! The top call.
 
-ghost use Rattle.std.specs.Prelude.{◌≡◌, ◌≢◌, ◌↔◌, ◌⊎◌, ℕ, List, [], length, Some, IfErr, OnOk};
-ghost use Rattle.host_io.specs.declared.host.InSlot.TheVariants.{Rom};
+ghost use Rattle.std.specs.Prelude.{◌≡◌, ◌≢◌, ◌⊎◌, ℕ, IfErr, OnOk};
 ghost use Rattle.host_io.specs.declared.host.OutSlot.TheVariants.{Report};
-ghost use Rattle.host_io.specs.declared.host.Slot.{Slot};
-ghost use Rattle.host_io.specs.declared.host.Slot.TheVariants.{In, Out};
+ghost use Rattle.host_io.specs.declared.host.Slot.TheVariants.{Out};
 ghost use Rattle.host_io.specs.Slots.{Same, SameBut};
-ghost use Rattle.mdl_state.specs.Memory.{IsRomLength};
-ghost use Rattle.mdl_state.specs.Policy.{meets_plain};
-ghost use Rattle.mdl_step.specs.Run.{ReachesUnbuilt};
-ghost use Rattle.m386.specs.Powered.{no_board, unmoved, powered};
-ghost use Rattle.m386.specs.Words as asked;
-ghost use Rattle.m386.specs.Words.{ToRun, ToList, Matched, NoneMatched, texts};
+ghost use Rattle.command_words.specs.Jobs as asked;
+ghost use Rattle.command_words.specs.Jobs.{Matched, IsRun, IsDis, IsDemo, texts};
+ghost use Rattle.m386.specs.Slots.{Keeps, path_for, report_only};
 ghost use Rattle.m386.specs.Headline.{Headline};
 ghost use Rattle.m386.specs.Listed.{Listed};
+ghost use Rattle.m386.specs.Demonstrated.{Demonstrated};
 ghost use Rattle.m386.specs.Refusals.{words_line};
-ghost use Rattle.m386.specs.Answers.{IsFaulted, IsImageWrong, IsRunUnbuilt, IsTold, SomeRose};
-ghost use Rattle.m386.specs.Commands.{IsDone, IsEnded, OpenedOnly, RomOpened};
+ghost use Rattle.m386.specs.Causes.{AreCounted, IsReady};
+ghost use Rattle.m386.specs.Answers.{Accepts, HasLine, IsDone, IsEnded, IsFaulted, IsImageWrong, IsRunUnbuilt, IsScriptBad, NoneServed, SomeRose, Tells};
 
+use crate::demo_command::demo_command;
 use crate::dis_command::dis_command;
 use crate::refusals::{Refusal, refuse};
 use crate::run_command::run_command;
 use crate::status::Status;
-use crate::words::{dis_job, run_job};
+use command_words::{Job, Refused, read_words};
 use host_io::Host;
 use std::alloc::Global;
 
 /// Does what the words ask for, up to a refusal.
 fn command<H: Host>(alloc: Global, words: &[&str], host: &mut H) -> Result<(), Refusal>
-    ensures ok { OnOk result (IsDone (texts words.now) (H.left host.old Rom) (H.took host.old Report) (H.took host.new Report)
-        (H.path host.new (In Rom)) (H.path host.new (Out Report))) }
+    ensures ok { OnOk result (IsDone (texts words.now) (H.left host.old) (H.took host.old) (H.took host.new) (H.path host.old) (H.path host.new)) }
     ensures kept { OnOk result (Same (H.faults host.old) (H.faults host.new)) }
-    ensures err { IfErr result (IsEnded (texts words.now) (H.left host.old Rom)
-        (H.took host.old Report) (H.took host.new Report) (H.faults host.old) (H.faults host.new)) }
-    ensures outputs { SameBut Report (H.took host.old) (H.took host.new) }
-    ensures rom_path { RomOpened (texts words.now) (H.path host.old (In Rom)) (H.path host.new (In Rom)) }
-    ensures report_path { OpenedOnly (H.path host.old (Out Report)) (H.path host.new (Out Report)) [] }
-    ensures unopened { (slot : Slot) → slot ≢ In Rom → slot ≢ Out Report → H.path host.new slot ≡ H.path host.old slot }
+    ensures refused { IfErr result (IsEnded (texts words.now) (H.left host.old) (H.took host.old) (H.took host.new)) }
+    ensures counted { IfErr result (λ refusal. AreCounted refusal (H.faults host.old) (H.faults host.new)) }
+    ensures ready { IfErr result (λ refusal. IsReady refusal (H.path host.new (Out Report))) }
+    ensures keeps { (job : asked.Job) → Matched (texts words.now) job
+        → Keeps (path_for job) (H.left host.old) (H.left host.new) (H.path host.old) (H.path host.new) }
+    ensures unasked { NoneServed (texts words.now)
+        → Keeps report_only (H.left host.old) (H.left host.new) (H.path host.old) (H.path host.new) }
 {
-    if let Some(job) = run_job(words) {
-        return run_command(alloc, host, &job);
+    match read_words(alloc, words) {
+        Ok(Job::Run(job)) => run_command(alloc, host, &job),
+        Ok(Job::Dis(job)) => dis_command(alloc, host, &job),
+        Ok(Job::Demo(number)) => demo_command(alloc, host, number),
+        Ok(Job::Monitor(_)) => Err(Refusal::Words),
+        Err(Refused::Usage) => Err(Refusal::Words),
+        Err(Refused::Memory) => Err(Refusal::Memory),
     }
-    if let Some(job) = dis_job(words) {
-        return dis_command(alloc, host, &job);
-    }
-    Err(Refusal::Words)
 }
 
-/// Does what the words ask for: a run with its report, or a listing. What is refused is told by a
-/// line.
+/// Does what the words ask for: a run with its outputs, a listing, or a demo. What is refused is told
+/// by a line.
 pub fn m386<H: Host>(alloc: Global, words: &[&str], host: &mut H) -> Status
-    ensures headline { (job : asked.RunJob) → Matched (texts words.now) (ToRun job) → result ≡ Status.Done
-        → Headline (texts words.now) (H.left host.old Rom) (H.took host.old Report) (H.took host.new Report)
-        (H.path host.new (In Rom)) (H.path host.new (Out Report)) }
-    ensures listing { (job : asked.DisJob) → Matched (texts words.now) (ToList job) → result ≡ Status.Done
-        → Listed (texts words.now) (H.left host.old Rom) (H.took host.old Report) (H.took host.new Report)
-        (H.path host.new (In Rom)) (H.path host.new (Out Report)) }
+    ensures headline { (job : asked.RunJob) → IsRun (texts words.now) job → result ≡ Status.Done
+        → Headline job (H.left host.old) (H.took host.old) (H.took host.new) (H.path host.old) (H.path host.new) }
+    ensures listing { (job : asked.DisJob) → IsDis (texts words.now) job → result ≡ Status.Done
+        → Listed job (H.left host.old) (H.took host.old) (H.took host.new) (H.path host.old) (H.path host.new) }
+    ensures demo { (number : ℕ) → IsDemo (texts words.now) number → result ≡ Status.Done
+        → Demonstrated number (H.took host.old) (H.took host.new) (H.path host.old) (H.path host.new) }
 
-    // When each other answer comes, and the line that the report then has.
-    ensures usage { (result ≡ Status.Usage) ↔ NoneMatched (texts words.now) }
-    ensures usage_line { result ≡ Status.Usage → IsTold (H.took host.old Report) (H.took host.new Report)
-        (H.faults host.old (Out Report)) (H.faults host.new (Out Report)) words_line }
-    ensures image { result ≡ Status.Image → IsImageWrong (texts words.now) (H.left host.old Rom)
-        (H.took host.old Report) (H.took host.new Report) (H.faults host.old (Out Report)) (H.faults host.new (Out Report)) }
-    ensures unbuilt { result ≡ Status.Unbuilt → IsRunUnbuilt (texts words.now) (H.left host.old Rom)
-        (H.took host.old Report) (H.took host.new Report) (H.faults host.old (Out Report)) (H.faults host.new (Out Report)) }
-    ensures fault { result ≡ Status.HostFault → IsFaulted (texts words.now) (H.left host.old Rom)
-        (H.took host.old Report) (H.took host.new Report) (H.faults host.old) (H.faults host.new) }
+    // When each other answer comes, and what the outputs then have.
+    ensures usage { result ≡ Status.Usage → NoneServed (texts words.now) }
+    ensures usage_line { result ≡ Status.Usage
+        → HasLine (H.took host.old) (H.took host.new) (H.path host.new) (H.faults host.old) (H.faults host.new) words_line }
+    ensures unserved { NoneServed (texts words.now) → (result ≡ Status.Usage) ⊎ (result ≡ Status.Memory) }
+    ensures image { result ≡ Status.Image → IsImageWrong (texts words.now) (H.left host.old)
+        (H.took host.old) (H.took host.new) (H.path host.new) (H.faults host.old) (H.faults host.new) }
+    ensures script { result ≡ Status.Script → IsScriptBad (texts words.now) (H.left host.old)
+        (H.took host.old) (H.took host.new) (H.path host.new) (H.faults host.old) (H.faults host.new) }
+    ensures unbuilt { result ≡ Status.Unbuilt → IsRunUnbuilt (texts words.now) (H.left host.old)
+        (H.took host.old) (H.took host.new) (H.path host.new) (H.faults host.old) (H.faults host.new) }
+    ensures fault { result ≡ Status.HostFault → IsFaulted (texts words.now) (H.left host.old)
+        (H.took host.old) (H.took host.new) (H.path host.new) (H.faults host.old) (H.faults host.new) }
     ensures memory { result ≡ Status.Memory → Same (H.took host.old) (H.took host.new) }
 
     // What stays.
     ensures kept { (result ≡ Status.Done) ⊎ (result ≡ Status.Memory) → Same (H.faults host.old) (H.faults host.new) }
     ensures line_only { result ≢ Status.HostFault → SameBut (Out Report) (H.faults host.old) (H.faults host.new) }
-    ensures outputs { SameBut Report (H.took host.old) (H.took host.new) }
-    ensures rom_path { RomOpened (texts words.now) (H.path host.old (In Rom)) (H.path host.new (In Rom)) }
-    ensures report_path { OpenedOnly (H.path host.old (Out Report)) (H.path host.new (Out Report)) [] }
-    ensures unopened { (slot : Slot) → slot ≢ In Rom → slot ≢ Out Report → H.path host.new slot ≡ H.path host.old slot }
+    ensures keeps { (job : asked.Job) → Matched (texts words.now) job
+        → Keeps (path_for job) (H.left host.old) (H.left host.new) (H.path host.old) (H.path host.new) }
+    ensures unasked { NoneServed (texts words.now)
+        → Keeps report_only (H.left host.old) (H.left host.new) (H.path host.old) (H.path host.new) }
 
-    // What is asked for and comes to no unbuilt step is done, unless memory wants.
-    ensures complete { (job : asked.RunJob) → (rom : List ℕ) → Matched (texts words.now) (ToRun job)
-        → H.left host.old Rom ≡ Some rom → IsRomLength (length rom)
-        → ¬ SomeRose (H.faults host.old) (H.faults host.new)
-        → ¬ ReachesUnbuilt no_board unmoved [] meets_plain (powered rom) job.steps
-        → (result ≡ Status.Done) ⊎ (result ≡ Status.Memory) }
-    ensures complete_listing { (job : asked.DisJob) → (rom : List ℕ) → Matched (texts words.now) (ToList job)
-        → H.left host.old Rom ≡ Some rom → IsRomLength (length rom)
+    // What is asked for, is accepted and comes to no unbuilt step is done, unless memory wants.
+    ensures complete { (job : asked.Job) → Matched (texts words.now) job → Accepts job (H.left host.old) → Tells (H.left host.old)
         → ¬ SomeRose (H.faults host.old) (H.faults host.new)
         → (result ≡ Status.Done) ⊎ (result ≡ Status.Memory) }
 {

@@ -1,25 +1,26 @@
-use Rattle.std.proofs.Common.{rules}
-use Rattle.host_io.specs.declared.host.InSlot.TheVariants.{Rom}
-use Rattle.host_io.specs.declared.host.OutSlot.TheVariants.{Report}
-use Rattle.host_io.specs.declared.host.Slot.TheVariants.{In, Out}
-use Rattle.m386.specs.Words.{ToRun, run_of}
-use Rattle.m386.proofs.Outcomes.{headline_of, report_cut}
+use Rattle.command_words.specs.Jobs.{run_of}
+use Rattle.m386.specs.Feeding.{fed_of}
+use Rattle.m386.proofs.Slots.{counted_result}
+use Rattle.m386.proofs.Ending.{headline_result, write_result}
 use Rattle.m386.proofs.run_command.run_command.Goals as goal
 
-pub returns-in_err-rom-clause-err : goal.returns-in_err-rom-clause-err
-returns-in_err-rom-clause-err g c = search (rules, c.in_err-rom.ensures.err (ToRun (run_of c.args.job.now)))
+pub returns-clause-ok : goal.returns-clause-ok
+returns-clause-ok g c =
+    let took = g.H.Host.took in
+    let path = g.H.Host.path in
+    let read = c.in_ok-inputs.ensures in
+    headline_result c.write_outputs.result (run_of c.args.job.now) (g.H.Host.left c.args.host.now) (took c.args.host.now) (took c.read_inputs.new.host) (took c.write_outputs.new.host)
+    (path c.args.host.now) (path c.read_inputs.new.host) (path c.write_outputs.new.host) (fed_of c.in_ok-inputs.inputs) c.in_ok-pc.pc
+    read.fed c.in_ok-pc.ensures.ok read.took read.opened read.outputs c.write_outputs.ensures.inputs c.write_outputs.ensures.ok c.write_outputs.ensures.opened
 
-pub returns-in-Ok-write_report-clause-ok : goal.returns-in-Ok-write_report-clause-ok
-returns-in-Ok-write_report-clause-ok g c = λ words matched. headline_of words _ _ _ _ _ (run_of c.args.job.now) c.in_ok-rom.rom.items c.run.new.machine matched
-    (record { whole = c.in_ok-rom.ensures.whole; size = c.in_ok-rom.ensures.size; made = rw c.in-Ok.ensures at c.in_ok-run.ensures.made })
-    (rw (c.in-Ok-open_out.ensures.took Report, c.in_ok-rom.ensures.took Report) at c.in-Ok-write_report.ensures.ok)
-    (rw (c.in-Ok-write_report.ensures.paths (In Rom), c.in-Ok-open_out.ensures.paths (In Rom) (λ same. cc)) c.in_ok-rom.ensures.opened)
-    (rw (c.in-Ok-write_report.ensures.paths (Out Report)) c.in-Ok-open_out.ensures.opened)
+pub returns-clause-refused : goal.returns-clause-refused
+returns-clause-refused g c =
+    let took = g.H.Host.took in
+    let read = c.in_ok-inputs.ensures in
+    write_result c.write_outputs.result (run_of c.args.job.now) (g.H.Host.left c.args.host.now) (took c.args.host.now) (took c.read_inputs.new.host) (took c.write_outputs.new.host)
+    (fed_of c.in_ok-inputs.inputs) c.in_ok-pc.pc read.fed c.in_ok-pc.ensures.ok read.took c.write_outputs.ensures.refused
 
-pub returns-clause-err : goal.returns-clause-err
-returns-clause-err g c = (
-  record { rose = search rules; others = search rules },
-  report_cut _ _ _ (run_of c.args.job.now) c.in_ok-rom.rom.items c.run.new.machine
-      (record { whole = c.in_ok-rom.ensures.whole; size = c.in_ok-rom.ensures.size; made = rw c.in-Ok.ensures at c.in_ok-run.ensures.made })
-      (rw (c.in-Ok-open_out.ensures.took Report, c.in_ok-rom.ensures.took Report) at c.in-Err.ensures.err),
-)
+pub returns-clause-counted : goal.returns-clause-counted
+returns-clause-counted g c =
+    let faults = g.H.Host.faults in
+    counted_result c.write_outputs.result (faults c.args.host.now) (faults c.read_inputs.new.host) (faults c.write_outputs.new.host) c.in_ok-inputs.ensures.kept c.write_outputs.ensures.counted

@@ -1,17 +1,40 @@
-use Rattle.m386.specs.Words.{ToRun, ToList}
-use Rattle.m386.proofs.Outcomes.{done_matched, done_listed, completed, run_is_built, listing_is_built}
+use Rattle.command_words.specs.Jobs.{texts}
+use Rattle.m386.specs.Slots.{path_for}
+use Rattle.m386.proofs.Complete.{completed}
+use Rattle.m386.proofs.Ending.{done_headline, done_demo, faulted}
+use Rattle.m386.proofs.Slots.{keeps_then, keeps_report, report_path}
 use Rattle.m386.proofs.top.m386.Goals as goal
 
-pub returns-in-Ok-clause-listing : goal.returns-in-Ok-clause-listing
-returns-in-Ok-clause-listing g c = λ job matched is. done_listed _ _ _ _ _ _ job c.in-Ok.ensures.ok matched
+pub returns-in-Ok-clause-headline : goal.returns-in-Ok-clause-headline
+returns-in-Ok-clause-headline g c = λ job matched is. done_headline (texts c.args.words.now) (g.H.Host.left c.args.host.now) (g.H.Host.took c.args.host.now) (g.H.Host.took c.command.new.host)
+    (g.H.Host.path c.args.host.now) (g.H.Host.path c.command.new.host) job c.in-Ok.ensures.ok matched
 
-pub returns-in-Ok-clause-usage : goal.returns-in-Ok-clause-usage
-returns-in-Ok-clause-usage g c = (λ is. cc, λ none. absurd (done_matched _ _ _ _ _ _ c.in-Ok.ensures.ok none))
+pub returns-in-Ok-clause-demo : goal.returns-in-Ok-clause-demo
+returns-in-Ok-clause-demo g c = λ number matched is. done_demo (texts c.args.words.now) (g.H.Host.left c.args.host.now) (g.H.Host.took c.args.host.now) (g.H.Host.took c.command.new.host)
+    (g.H.Host.path c.args.host.now) (g.H.Host.path c.command.new.host) number c.in-Ok.ensures.ok matched
+
+pub returns-in-Err-clause-fault : goal.returns-in-Err-clause-fault
+returns-in-Err-clause-fault g c =
+    let took = g.H.Host.took in
+    let faults = g.H.Host.faults in
+    let told = c.refuse.ensures in
+    faulted (texts c.args.words.now) (g.H.Host.left c.args.host.now) (took c.args.host.now) (took c.command.new.host) (took c.refuse.new.host) (g.H.Host.path c.refuse.new.host)
+    (faults c.args.host.now) (faults c.command.new.host) (faults c.refuse.new.host) c.in-Err.refusal c.refuse.result
+    c.in-Err.ensures.refused c.in-Err.ensures.counted told.status told.line told.outputs told.faults told.later
+
+pub returns-in-Err-clause-keeps : goal.returns-in-Err-clause-keeps
+returns-in-Err-clause-keeps g c =
+    let left = g.H.Host.left in
+    let path = g.H.Host.path in
+    let told = c.refuse.ensures in
+    λ job matched. keeps_then (path_for job) (left c.args.host.now) (left c.command.new.host) (left c.refuse.new.host) (path c.args.host.now) (path c.command.new.host) (path c.refuse.new.host)
+    (c.in-Err.ensures.keeps job matched)
+    (keeps_report (path_for job) (left c.command.new.host) (left c.refuse.new.host) (path c.command.new.host) (path c.refuse.new.host) (report_path job) told.left told.path told.paths)
 
 pub returns-in-Err-clause-complete : goal.returns-in-Err-clause-complete
-returns-in-Err-clause-complete g c = λ job rom matched told size calm built. completed _ _ _ _ _ _ _ (ToRun job) rom c.in-Err.refusal c.refuse.result c.in-Err.ensures.err c.refuse.ensures.status matched told size calm
-    c.refuse.ensures.faults c.refuse.ensures.later (run_is_built _ _ job rom matched told built)
-
-pub returns-in-Err-clause-complete_listing : goal.returns-in-Err-clause-complete_listing
-returns-in-Err-clause-complete_listing g c = λ job rom matched told size calm. completed _ _ _ _ _ _ _ (ToList job) rom c.in-Err.refusal c.refuse.result c.in-Err.ensures.err c.refuse.ensures.status matched told size calm
-    c.refuse.ensures.faults c.refuse.ensures.later (listing_is_built _ _ job matched)
+returns-in-Err-clause-complete g c =
+    let faults = g.H.Host.faults in
+    let told = c.refuse.ensures in
+    λ job matched accepts tells calm. completed (texts c.args.words.now) (g.H.Host.left c.args.host.now) (g.H.Host.took c.args.host.now) (g.H.Host.took c.command.new.host)
+    (faults c.args.host.now) (faults c.command.new.host) (faults c.refuse.new.host) job c.in-Err.refusal c.refuse.result
+    c.in-Err.ensures.refused c.in-Err.ensures.counted told.status matched accepts tells calm told.faults told.later

@@ -1,0 +1,136 @@
+-- What is asked for and accepted is refused for want of memory alone, where the host tells and no call failed.
+use Rattle.std.proofs.Common.{◌≡◌, ◌≢◌, ◌⊎◌, inl, inr, ℕ, ◌≤◌, ◌+◌, List, [], length, min, Option, None, Some, refl, ap, sym, subst, ◌∙◌, arith}
+use Rattle.host_io.specs.declared.host.InSlot.{InSlot}
+use Rattle.host_io.specs.declared.host.InSlot.TheVariants.{Rom, Disk, Script, Commands}
+use Rattle.host_io.specs.declared.host.OutSlot.TheVariants.{Report, Mem, Save}
+use Rattle.host_io.specs.declared.host.Slot.{Slot}
+use Rattle.host_io.specs.declared.host.Slot.TheVariants.{In, Out}
+use Rattle.host_io.specs.Causes.{Rose}
+use Rattle.host_io.specs.Slots.{SameBut}
+use Rattle.host_io.specs.Transfers.{IsWhole}
+use Rattle.command_words.specs.Jobs.{Machine, RunJob, Job, Run, Dis, Demo, Monitor, Matched}
+use Rattle.mdl_state.specs.declared.Event.{Event}
+use Rattle.mdl_state.specs.Memory.{IsRomLength}
+use Rattle.mdl_step.specs.Computer.{board_rules, on_board, powered, run_policy}
+use Rattle.mdl_step.specs.Run.{ReachesUnbuilt}
+use Rattle.mdl_text.specs.ScriptLaws.{none_bad, one_script}
+use Rattle.mdl_text.specs.Script as texts
+use Rattle.m386.specs.declared.refusals.Refusal.{Refusal}
+use Rattle.m386.specs.declared.refusals.Refusal.TheVariants as refusals
+use Rattle.m386.specs.declared.status.Status.{Status}
+use Rattle.m386.specs.declared.status.Status.TheVariants.{Done, Memory}
+use Rattle.m386.specs.Slots.{Left, Took, Counts, input_path}
+use Rattle.m386.specs.Inputs.{Fed, IsFed, IsFit, IsInput, IsLength, IsAccepted, limit_of}
+use Rattle.m386.specs.Listed.{IsRom}
+use Rattle.m386.specs.Refusals.{status_of}
+use Rattle.m386.specs.Causes.{OnlyRose, AreCounted, IsJobLengthWrong, IsJobScriptWrong, IsUnbuilt}
+use Rattle.m386.proofs.Slots.{grown}
+use Rattle.m386.specs.Answers.{Accepts, Tells, SomeRose, IsServed, IsEnded}
+
+-- ---- inputs
+
+some_told : (left : Option (List ℕ)) → left ≢ None → (bytes : List ℕ) × (left ≡ Some bytes)
+some_told None told = absurd (told refl)
+some_told (Some bytes) told = (bytes, refl)
+
+whole_told : (left : Option (List ℕ)) (bytes xs : List ℕ) → left ≡ Some xs → IsWhole left bytes → bytes ≡ xs
+whole_told left bytes xs is whole = subst (λ l. IsWhole l bytes) is whole
+
+within : (slot : InSlot) (n : ℕ) → IsFit slot n → n ≤ limit_of slot
+within Rom n fits = fits.most
+within Disk n fits = fits.most
+within Script n fits = fits
+within Commands n fits = fits
+
+-- an input that is accepted has no wrong length
+fits_told : (slot : InSlot) (left : Option (List ℕ)) (bytes : List ℕ) (n : ℕ) → left ≢ None → IsWhole left bytes → IsFit slot (length bytes) → IsLength (limit_of slot) left n → IsFit slot n
+fits_told slot left bytes n told whole fits is =
+    let some = some_told left told in
+    let same : bytes ≡ some.0 = whole_told left bytes some.0 some.1 whole in
+    let length_is : n ≡ min (length some.0) (limit_of slot + 1) = subst (λ l. IsLength (limit_of slot) l n) some.1 is in
+    let few : length bytes ≤ limit_of slot = within slot (length bytes) fits in
+    let count : length bytes ≡ n = (let lengths : length bytes ≡ length some.0 = ap length same in omega (arith, length_is, few, lengths)) in
+    subst (IsFit slot) count fits
+
+same_input : (path left : Option (List ℕ)) (a b : List ℕ) → left ≢ None → IsInput path left a → IsInput path left b → a ≡ b
+same_input None left a b told is_a is_b = is_a ∙ sym is_b
+same_input (Some path) left a b told is_a is_b =
+    let some = some_told left told in
+    whole_told left a some.0 some.1 is_a ∙ sym (whole_told left b some.0 some.1 is_b)
+
+named_whole : (path left : Option (List ℕ)) (name bytes : List ℕ) → path ≡ Some name → IsInput path left bytes → IsWhole left bytes
+named_whole path left name bytes is input = subst (λ p. IsInput p left bytes) is input
+
+accepted_fits : (m : Machine) (left : Left) (slot : InSlot) (bytes name : List ℕ) (n : ℕ) → Tells left → IsAccepted m left slot bytes → input_path m slot ≡ Some name → IsLength (limit_of slot) (left slot) n → IsFit slot n
+accepted_fits m left slot bytes name n told is path length_is =
+    fits_told slot (left slot) bytes n (told slot) (named_whole (input_path m slot) (left slot) name bytes path is.whole) is.fits length_is
+
+fed_length : (m : Machine) (left : Left) (fed : Fed) (slot : InSlot) (name : List ℕ) (n : ℕ) → Tells left → IsFed m left fed → input_path m slot ≡ Some name → IsLength (limit_of slot) (left slot) n → ¬ (IsFit slot n) → ⊥
+fed_length m left fed Rom name n told is path length_is wrong = wrong (accepted_fits m left Rom fed.rom name n told is.rom path length_is)
+fed_length m left fed Disk name n told is path length_is wrong = wrong (accepted_fits m left Disk fed.disk name n told is.disk path length_is)
+fed_length m left fed Script name n told is path length_is wrong = wrong (accepted_fits m left Script is.script name n told is.read path length_is)
+fed_length m left fed Commands name n told is path length_is wrong = cc
+
+-- a machine is fed in one way
+fed_same : (m : Machine) (left : Left) (a b : Fed) → Tells left → IsFed m left a → IsFed m left b → a ≡ b
+fed_same m left a b told is_a is_b =
+    let rom : a.rom ≡ b.rom = same_input (input_path m Rom) (left Rom) a.rom b.rom (told Rom) is_a.rom.whole is_b.rom.whole in
+    let disk : a.disk ≡ b.disk = same_input (input_path m Disk) (left Disk) a.disk b.disk (told Disk) is_a.disk.whole is_b.disk.whole in
+    let script : is_a.script ≡ is_b.script = same_input (input_path m Script) (left Script) is_a.script is_b.script (told Script) is_a.read.whole is_b.read.whole in
+    let events : a.events ≡ b.events = one_script is_b.script a.events b.events (subst (λ s. texts.Script s a.events) script is_a.events) is_b.events in
+    ap (λ (x : List ℕ). let fed : Fed = record { rom = x; disk = a.disk; events = a.events } in fed) rom
+    ∙ ap (λ (x : List ℕ). let fed : Fed = record { rom = b.rom; disk = x; events = a.events } in fed) disk
+    ∙ ap (λ (x : List Event). let fed : Fed = record { rom = b.rom; disk = b.disk; events = x } in fed) events
+
+-- ---- jobs
+
+served : (job : Job) (left : Left) → Accepts job left → IsServed job
+served (Run job) left accepts = tt
+served (Dis job) left accepts = tt
+served (Demo number) left accepts = tt
+served (Monitor machine) left accepts = absurd accepts
+
+right_length : (job : Job) (left : Left) (slot : InSlot) (n : ℕ) → Tells left → Accepts job left → IsJobLengthWrong job left slot n → ⊥
+right_length (Run job) left slot n told accepts wrong = fed_length job.machine left accepts.0 slot wrong.path n told accepts.1 wrong.named wrong.told wrong.wrong
+right_length (Dis job) left slot n told accepts wrong = wrong.2 (fits_told Rom (left Rom) accepts.0 n (told Rom) accepts.1.whole accepts.1.size wrong.1)
+right_length (Demo number) left slot n told accepts wrong = wrong
+right_length (Monitor machine) left slot n told accepts wrong = accepts
+
+right_script : (job : Job) (left : Left) (n : ℕ) → Tells left → Accepts job left → IsJobScriptWrong job left n → ⊥
+right_script (Run job) left n told accepts wrong =
+    let is = accepts.1 in
+    let same : wrong.script ≡ is.script = same_input (input_path job.machine Script) (left Script) wrong.script is.script (told Script) wrong.read.whole is.read.whole in
+    none_bad is.script accepts.0.events n is.events (subst (λ s. texts.IsFirstBad s n) same wrong.bad)
+right_script (Dis job) left n told accepts wrong = wrong
+right_script (Demo number) left n told accepts wrong = wrong
+right_script (Monitor machine) left n told accepts wrong = wrong
+
+all_built : (job : Job) (left : Left) (steps byte : ℕ) → Tells left → Accepts job left → IsUnbuilt job left steps byte → ⊥
+all_built (Run job) left steps byte told accepts unbuilt =
+    accepts.2 (subst (λ (fed : Fed). ReachesUnbuilt board_rules on_board fed.events run_policy (powered job.machine.ram fed.rom fed.disk) job.steps)
+    (fed_same job.machine left unbuilt.fed accepts.0 told unbuilt.is_fed accepts.1) unbuilt.at.reaches)
+all_built (Dis job) left steps byte told accepts unbuilt = unbuilt
+all_built (Demo number) left steps byte told accepts unbuilt = accepts unbuilt.reaches
+all_built (Monitor machine) left steps byte told accepts unbuilt = unbuilt
+
+-- ---- counts
+
+rose_still : (f g h : Counts) (slot : Slot) → OnlyRose slot f g → SameBut (Out Report) g h → g (Out Report) ≤ h (Out Report) → SomeRose f h
+rose_still f g h slot only same later = let up = grown g h same later slot in (slot, omega (arith, up, only.rose))
+
+-- ---- the answer
+
+pub completed : (words : List (List ℕ)) (left : Left) (t0 t1 : Took) (f g h : Counts) (asked : Job) (refusal : Refusal) (status : Status)
+    → IsEnded words left t0 t1 refusal → AreCounted refusal f g → status ≡ status_of refusal
+    → Matched words asked → Accepts asked left → Tells left → ¬ (SomeRose f h) → SameBut (Out Report) g h → g (Out Report) ≤ h (Out Report)
+    → (status ≡ Done) ⊎ (status ≡ Memory)
+completed words left t0 t1 f g h asked refusals.Memory status e counted is matched accepts told calm same later = inr is
+completed words left t0 t1 f g h asked refusals.Words status e counted is matched accepts told calm same later = absurd (e.0 asked (served asked left accepts) matched)
+completed words left t0 t1 f g h asked (refusals.HostFault slot) status e counted is matched accepts told calm same later = absurd (calm (rose_still f g h slot counted same later))
+completed words left t0 t1 f g h asked (refusals.Length slot n) status e counted is matched accepts told calm same later =
+    absurd (right_length e.job left slot n told (subst (λ j. Accepts j left) (e.asks.only asked matched) accepts) e.refused.0)
+completed words left t0 t1 f g h asked (refusals.Script n) status e counted is matched accepts told calm same later =
+    absurd (right_script e.job left n told (subst (λ j. Accepts j left) (e.asks.only asked matched) accepts) e.refused.0)
+completed words left t0 t1 f g h asked (refusals.Unbuilt steps byte) status e counted is matched accepts told calm same later =
+    absurd (all_built e.job left steps byte told (subst (λ j. Accepts j left) (e.asks.only asked matched) accepts) e.refused.0)
+completed words left t0 t1 f g h asked (refusals.Late slot) status e counted is matched accepts told calm same later = absurd (calm (rose_still f g h (Out slot) counted same later))
