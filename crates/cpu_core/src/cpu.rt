@@ -2,7 +2,6 @@
 
 ghost use Rattle.std.specs.Prelude.{◌≡◌, ◌<◌, ◌+◌, ◌-◌, ◌^◌, ℕ, [], true, false};
 ghost use Rattle.std.specs.Bool.{OnTrue, OnFalse};
-ghost use Rattle.std.specs.Borrow.{Lends, sem};
 ghost use Rattle.mdl_state.specs.declared.Regs.{Regs as Registers};
 ghost use Rattle.mdl_state.specs.Accesses.{with_a20};
 ghost use Rattle.mdl_state.specs.Boot.{reset_core};
@@ -23,7 +22,6 @@ ghost use Rattle.cpu_core.specs.Executing.{MayFollow};
 ghost use Rattle.cpu_core.specs.Plain.{IsPlain, IsReady};
 ghost use Rattle.cpu_core.specs.Rows.{told};
 ghost use Rattle.cpu_core.specs.Turns.{Executed, Takes};
-ghost use Rattle.cpu_core.specs.contracts.cpu.Cpu.{the_row};
 
 use crate::boundary::{Row, activity_after, boundary, hold_after, is_idle};
 use crate::causes::{DEBUG, NON_MASKABLE, activity_at, event_cause, pending_at, soft_cause};
@@ -46,14 +44,14 @@ use std::marker::Model;
 /// items are left, and no breakpoint is looked for.
 #[derive(Drop)]
 pub struct Cpu<L: Linear, P: Ports> {
-    regs: Regs,
-    flags: Flags,
-    activity: Activity,
-    latches: Latches,
-    steps: u64,
-    code: Code<L>,
-    ports: P,
-    insn: Insn,
+    pub(crate) regs: Regs,
+    pub(crate) flags: Flags,
+    pub(crate) activity: Activity,
+    pub(crate) latches: Latches,
+    pub(crate) steps: u64,
+    pub(crate) code: Code<L>,
+    pub(crate) ports: P,
+    pub(crate) insn: Insn,
 }
 
 impl<L: Linear, P: Ports> Model for Cpu<L, P> {
@@ -381,57 +379,5 @@ impl<L: Linear, P: Ports> Cpu<L, P> {
         ensures board { self.new.board ≡ self.old.board }
     {
         self.latches.nmi = true;
-    }
-
-    /// The registers, EFLAGS with its status flags.
-    pub fn regs(&self) -> Regs
-        ensures { result ≡ self.now.state.core.regs }
-    {
-        let mut regs = self.regs;
-        regs.eflags = self.flags.pack(regs.eflags);
-        regs
-    }
-
-    /// What the processor remembers between two steps.
-    pub fn latches(&self) -> Latches
-        ensures { result ≡ self.now.state.core.latches }
-    {
-        self.latches
-    }
-
-    /// The number of steps that were made.
-    pub fn steps(&self) -> u64
-        ensures { result ≡ self.now.state.core.steps }
-    {
-        self.steps
-    }
-
-    /// What the processor does.
-    pub fn activity(&self) -> Activity
-        ensures { result ≡ self.now.state.core.activity }
-    {
-        self.activity
-    }
-
-    /// The memory.
-    pub fn lin(&self) -> &L
-        ensures { L.seen result.now ≡ self.now.state.mem }
-    {
-        &self.code.lin
-    }
-
-    /// The ports.
-    pub fn ports(&self) -> &P
-        ensures { result.now ≡ self.now.board }
-    {
-        &self.ports
-    }
-
-    /// The ports, to be changed. Whoever changes the line A20 there calls `reset` next.
-    pub fn ports_mut(&mut self) -> &mut P
-        ensures* lends { sem 𝓛 (Lends (the_row L.row P.row L.Linear P.Ports) P.row self.entry result (λ (w : P). let m : Machine P = record { state = self.old.state; board = w } in m)) }
-        ensures value { result.now ≡ self.old.board }
-    {
-        &mut self.ports
     }
 }

@@ -12,5 +12,6 @@ mod decoding;
 mod dispatch;
 mod execute;
 mod reset;
+mod seen;
 
 pub use cpu::Cpu;
