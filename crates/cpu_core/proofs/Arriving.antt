@@ -37,20 +37,21 @@ arrived_as core Shutdown r q activity pending a b c = rw (a, b, c) refl
 
 -- ---- a reset
 
-reset_sound : IsSound reset_regs
-reset_sound = record {
-  real = λ _. refl;
-  virtual_level = λ e. absurd (false≢true e);
-  virtual_mode = λ e. absurd (false≢true e);
-  paged_mode = λ e. absurd (false≢true e);
-  level = omega arith;
-  flags = record { one = refl; three = refl; five = refl; fifteen = refl; above = omega arith };
+-- registers of real mode with no flag set are sound
+pub real_sound : (r : Regs) → r.cr0 ≡ 0 → r.eflags ≡ 2 → r.cpl ≡ 0 → IsSound r
+real_sound r control flags level = record {
+  real = λ _. level;
+  virtual_level = λ e. absurd (false≢true (ap (λ (n : ℕ). bit n 17) (sym flags) ∙ e));
+  virtual_mode = λ e. absurd (false≢true (ap (λ (n : ℕ). bit n 17) (sym flags) ∙ e));
+  paged_mode = λ e. absurd (false≢true (ap (λ (n : ℕ). bit n 31) (sym control) ∙ e));
+  level = omega (arith, level);
+  flags = rw flags (record { one = refl; three = refl; five = refl; fifteen = refl; above = omega arith });
 }
 
 -- the registers after a reset, over plain memory
 pub reset_plain : (r : Regs) (f : ℕ) (m : Mem) → r ≡ reset_regs → f ≡ with_status 0 r.eflags → IsPlain m → IsReady (whole r f) m
 reset_plain r f m is unpacked plain = subst (λ (q : Regs). IsReady q m) (sym (ap (whole r) unpacked ∙ whole_unpacked r ∙ is))
-    (record { sound = reset_sound; paging = λ _. plain.paging; held = plain.held; served = plain.served; watch = plain.watch; hits = plain.hits })
+    (record { sound = real_sound reset_regs refl refl refl; paging = λ _. plain.paging; held = plain.held; served = plain.served; watch = plain.watch; hits = plain.hits })
 
 pub reset_ready : (r q : Regs) (f : ℕ) (on : Bool) (m n : Mem) → r ≡ reset_regs → f ≡ with_status 0 r.eflags → IsReady q m → n ≡ with_a20 on (record m { paging = false; cr3 = 0; cache = empty }) → IsReady (whole r f) n
 reset_ready r q f on m n is unpacked ready same = reset_plain r f n is unpacked (record {

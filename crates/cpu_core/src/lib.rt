@@ -13,5 +13,7 @@ mod dispatch;
 mod execute;
 mod reset;
 mod seen;
+#[cfg(test)]
+mod tests;
 
 pub use cpu::Cpu;
