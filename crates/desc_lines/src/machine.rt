@@ -10,12 +10,16 @@ use seg_unit::segment;
 use std::alloc::{AllocError, Global};
 use tlb::Tlb;
 
-/// PE and PG of CR0.
+/// PE of CR0.
 const PROTECTION: u32 = 0x1;
+
+/// PG of CR0.
 const PAGING: u32 = 0x8000_0000;
 
-/// VM of EFLAGS, and what EFLAGS has always.
+/// VM of EFLAGS.
 const VIRTUAL_8086: u32 = 0x2_0000;
+
+/// What EFLAGS has always.
 const EFLAGS: u32 = 0x2;
 
 /// A segment of the first 64 KiB, which real mode keeps as it is.

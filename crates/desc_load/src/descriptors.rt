@@ -21,11 +21,19 @@ const HIGH: u32 = 4;
 /// G, in the high doubleword.
 const GRANULARITY: u32 = 0x80_0000;
 
-/// Bits of the access byte: P, S, code, conforming, and code that is read or data that is written.
+/// P of the access byte.
 const PRESENT: u16 = 0x80;
+
+/// S: a segment of code or data.
 const SEGMENT: u16 = 0x10;
+
+/// Bit 3 of the type of a segment: code, and not data.
 const CODE: u16 = 0x8;
+
+/// Bit 2 of the type of code.
 const CONFORMING: u16 = 0x4;
+
+/// Bit 1 of the type of a segment: code can be read, data can be written.
 const READABLE_OR_WRITABLE: u16 = 0x2;
 
 /// The descriptor of the selector lies past its table.

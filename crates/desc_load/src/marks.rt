@@ -28,7 +28,11 @@ fn with_set(byte: u32, n: u32) -> u32
     ensures bound { result < 2 ^ 8 }
 {
     let mask = 1 << n;
-    if byte / mask % 2 == 1 { byte } else { byte + mask }
+    if byte / mask % 2 == 1 {
+        byte
+    } else {
+        byte + mask
+    }
 }
 
 /// Sets a bit of the access byte.

@@ -36,8 +36,10 @@ const PROTECTION: u32 = 0x1;
 /// VM of EFLAGS.
 const VIRTUAL_8086: u32 = 0x2_0000;
 
-/// The limit and the rights of each segment in V86.
+/// The limit of each segment in V86.
 const VIRTUAL_LIMIT: u32 = 0xFFFF;
+
+/// The rights of each: data of level 3 that was accessed and may be written.
 const VIRTUAL_RIGHTS: u16 = 0xF3;
 
 fn has_protection(regs: &Regs) -> bool

@@ -23,9 +23,13 @@ const NOT_PRESENT: u8 = 11;
 /// The vector of a general protection fault.
 const GENERAL_PROTECTION: u8 = 13;
 
-/// The types of the LDT, and of a TSS of the 80286 and of the 80386 that is not busy.
+/// The type of the LDT.
 const LDT: u8 = 2;
+
+/// The type of a TSS of the 80286 that is not busy.
 const AVAILABLE_286: u8 = 1;
+
+/// The type of a TSS of the 80386 that is not busy.
 const AVAILABLE_386: u8 = 9;
 
 /// LDTR and TR are loaded by selectors of the global table alone.

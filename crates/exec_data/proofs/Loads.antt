@@ -40,8 +40,10 @@ module _ (serve : Serve) (F : ℕ) where
   done_packs r = record { each = λ m. refl }
 
   then_packs : {A : Type 0} (p : Plan A) (f g : A → Plan Regs) → ((x : A) → Packs (f x) (g x)) → Packs (then_plan p f) (then_plan p g)
-  then_packs p f g h = record { each = λ m. ap packed (tried-then_plan serve 0 p f m) ∙ on_on (tried serve 0 p m) _ _
-      ∙ on_same (tried serve 0 p m) _ _ (λ x n. (h x).each n) ∙ sym (tried-then_plan serve 0 p g m) }
+  then_packs p f g h = record {
+    each = λ m. ap packed (tried-then_plan serve 0 p f m) ∙ on_on (tried serve 0 p m) _ _
+        ∙ on_same (tried serve 0 p m) _ _ (λ x n. (h x).each n) ∙ sym (tried-then_plan serve 0 p g m);
+  }
 
   checked_packs : {A : Type 0} (c : Result A Fault) (f g : A → Plan Regs) → ((x : A) → Packs (f x) (g x)) → Packs (checked c f) (checked c g)
   checked_packs (Ok x) f g h = h x

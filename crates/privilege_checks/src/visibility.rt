@@ -22,14 +22,28 @@ const SHOWN: u32 = 0x00F0_FF00;
 /// Those that it shows in 16 bits.
 const SHOWN_IN_A_WORD: u32 = 0xFF00;
 
-/// The types of the system.
+/// A TSS of the 80286 that is not busy, as a type of the system.
 const AVAILABLE_286: u8 = 1;
+
+/// A local descriptor table.
 const LDT: u8 = 2;
+
+/// A TSS of the 80286 that is in use.
 const BUSY_286: u8 = 3;
+
+/// A call gate of the 80286.
 const CALL_GATE_286: u8 = 4;
+
+/// A task gate.
 const TASK_GATE: u8 = 5;
+
+/// A TSS of the 80386 that is not busy.
 const AVAILABLE_386: u8 = 9;
+
+/// A TSS of the 80386 that is in use.
 const BUSY_386: u8 = 11;
+
+/// A call gate of the 80386.
 const CALL_GATE_386: u8 = 12;
 
 /// What a program wants to know of a descriptor.
