@@ -31,6 +31,7 @@ pub(crate) enum Row {
 }
 
 /// Whether a bit is 1.
+#[inline(always)]
 pub(crate) fn has(number: u32, place: u8) -> bool
     requires { place < 32 }
     ensures { result ≡ bit number place }
@@ -96,6 +97,7 @@ pub(crate) fn boundary(activity: Activity, wants: bool, regs: &Regs, latches: &L
 }
 
 /// Whether nothing happens in a step.
+#[inline(always)]
 pub(crate) fn is_idle(row: Row) -> bool
     ensures idle { OnTrue result (told row ≡ rows.Idle) }
     ensures busy { OnFalse result (told row ≡ rows.Idle → ⊥) }
@@ -107,6 +109,7 @@ pub(crate) fn is_idle(row: Row) -> bool
 }
 
 /// What the processor does after an instruction.
+#[inline(always)]
 pub(crate) fn activity_after(next: Next) -> Activity
     ensures { result ≡ activity_after next }
 {
@@ -117,6 +120,7 @@ pub(crate) fn activity_after(next: Next) -> Activity
 }
 
 /// What is held back after an instruction.
+#[inline(always)]
 pub(crate) fn hold_after(next: Next) -> u8
     ensures { result ≡ hold_after next }
 {

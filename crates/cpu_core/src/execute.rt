@@ -36,6 +36,7 @@ const BREAKPOINTS: u32 = 0x100;
 
 /// Real mode, and nothing debugged.
 #[tactic(auto, using(crate::proofs::Modes::modes))]
+#[inline(always)]
 pub(crate) fn is_covered(regs: &Regs) -> bool
     ensures { (flags : ℕ) → result ≡ is_covered (whole regs.now flags) }
 {
@@ -112,6 +113,7 @@ pub(crate) fn execute<L: Linear, P: Ports>(
 }
 
 /// Whether an instruction leaves RF as it is.
+#[inline(always)]
 fn keeps_resume(op: Op, next: Next) -> bool
     ensures { result ≡ keeps_resume op next }
 {
@@ -125,6 +127,7 @@ fn keeps_resume(op: Op, next: Next) -> bool
 }
 
 /// Puts EIP behind an instruction, unless that set it or goes on, and clears RF.
+#[inline(always)]
 #[tactic(auto, using(crate::proofs::Resumed::resumes))]
 pub(crate) fn land(regs: &mut Regs, op: Op, next: Next, back: u32)
     ensures { (flags : ℕ) → whole regs.new flags ≡ resumed op next (landed next (whole regs.old flags) back) }
@@ -139,6 +142,7 @@ pub(crate) fn land(regs: &mut Regs, op: Op, next: Next, back: u32)
 }
 
 /// Whether NMIs stay masked behind an instruction: IRET lets them in again.
+#[inline(always)]
 pub(crate) fn masks(op: Op, masked: bool) -> bool
     ensures { result ≡ masks op masked }
 {
