@@ -1,7 +1,8 @@
 //! A line's steps, and what they leave.
 
+use crate::deliveries::{Ending, ended_by_fault, ended_by_interrupt};
 use crate::steps::{Stepped, step};
-use mdl_state::{Fault, Hidden, Next, Regs};
+use mdl_state::{Hidden, Next, Regs};
 use tlb::Tlb;
 
 /// The access byte of a data segment for every level, which may be written.
@@ -30,7 +31,7 @@ const REGS: Regs = Regs {
     gdt_base: 0,
     gdt_limit: 0,
     idt_base: 0,
-    idt_limit: 0,
+    idt_limit: 0x3FF,
     cr0: 0,
     cr2: 0,
     cr3: 0,
@@ -52,11 +53,12 @@ const HEAD: usize = 12;
 /// The numbers of a line.
 const NUMBERS: usize = HEAD + CODE;
 
-/// What the steps of a line leave: the fault that ended them, and the registers.
+/// What the steps of a line leave: the registers, and the fault or the software interrupt that ended
+/// them.
 #[derive(Clone, Copy)]
 pub struct Answer {
-    pub fault: Option<Fault>,
     pub regs: Regs,
+    pub ending: Option<Ending>,
 }
 
 /// The numbers of a line; zeros where it has fewer.
@@ -101,15 +103,6 @@ fn regs_of(numbers: &[u32; NUMBERS], big: bool) -> Regs {
     regs
 }
 
-/// A software interrupt as a fault, which has no error code.
-fn software_interrupt(vector: u8) -> Fault {
-    Fault {
-        vector,
-        code: 0,
-        addr: 0,
-    }
-}
-
 /// The steps of a line, or nothing where one is of no instruction that a crate runs. A software
 /// interrupt ends them as a fault does, with EIP behind it.
 pub fn answer_of(memory: &mut Tlb, line: &str) -> Option<Answer> {
@@ -120,18 +113,18 @@ pub fn answer_of(memory: &mut Tlb, line: &str) -> Option<Answer> {
     for _ in 0..numbers[1] {
         let code = code_at(&numbers, regs.eip.wrapping_sub(start));
         let Stepped { ran, back } = step(&mut regs, memory, &code, big)?;
-        let fault = match ran {
+        let ending = match ran {
             Ok(Next::Soft(vector)) => {
                 regs.eip = back;
-                software_interrupt(vector)
+                ended_by_interrupt(&regs, memory, vector)?
             }
             Ok(_) => continue,
-            Err(fault) => fault,
+            Err(fault) => ended_by_fault(&regs, memory, fault)?,
         };
         return Some(Answer {
-            fault: Some(fault),
             regs,
+            ending: Some(ending),
         });
     }
-    Some(Answer { fault: None, regs })
+    Some(Answer { regs, ending: None })
 }

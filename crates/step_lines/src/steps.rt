@@ -29,7 +29,7 @@ use operands::{general_protection, no_such};
 use string_ops::runs_string;
 
 /// How many bytes may be held: so many where none is.
-const ROOM: u16 = 256;
+pub const ROOM: u16 = 256;
 
 /// PE of CR0.
 const PROTECTION: u32 = 1;
