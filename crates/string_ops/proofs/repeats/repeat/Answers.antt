@@ -14,9 +14,13 @@ returns-clause-run g c =
     let h = c.in_ok-iterate.ensures.run in
     let flags = c.iterate.new.flags in
     let old = whole c.args.regs.now c.args.flags.now in
-    let before = with_status c.iterate.new.regs.eflags flags in
-    (h.0, h.1, h.2, repeat_passes (by_pick g.L.Linear.pick) h.0 c.args.insn.now old (g.L.Linear.seen c.args.lin.now) (g.L.Linear.seen c.iterate.new.lin) before (with_status c.count.new.regs.eflags flags)
-        (record { regs = whole c.iterate.new.regs flags; next = c.in_ok-iterate.field-0; access = h.1 }) (record { regs = whole c.count.new.regs flags; next = c.count.result; access = h.1 })
-        (λ e. c.if-count_of-eq0.false (c.count_of.ensures.value c.args.flags.now ∙ e))
-        (ap (λ eflags. with_status eflags flags) c.count.ensures.kept.eflags)
-        (c.count.ensures.value c.in_ok-iterate.field-0 h.1) h.3)
+    let before = with_status c.iterate.new.regs.eflags flags in (
+      h.0,
+      h.1,
+      h.2,
+      repeat_passes (by_pick g.L.Linear.pick) h.0 c.args.insn.now old (g.L.Linear.seen c.args.lin.now) (g.L.Linear.seen c.iterate.new.lin) before (with_status c.count.new.regs.eflags flags)
+          (record { regs = whole c.iterate.new.regs flags; next = c.in_ok-iterate.field-0; access = h.1 }) (record { regs = whole c.count.new.regs flags; next = c.count.result; access = h.1 })
+          (λ e. c.if-count_of-eq0.false (c.count_of.ensures.value c.args.flags.now ∙ e))
+          (ap (λ eflags. with_status eflags flags) c.count.ensures.kept.eflags)
+          (c.count.ensures.value c.in_ok-iterate.field-0 h.1) h.3,
+    )
