@@ -103,9 +103,9 @@ fn a_failing_call_is_told_behind_what_the_report_has(rt: HostRuntime) -> Result<
     Ok(())
 }
 
-/// How many pieces of RAM are written before a call, where the first is written in the 14th.
-fn pieces_before(call: u64) -> usize {
-    (call.saturating_sub(14) as usize).min(16)
+/// How many bytes of RAM are written before a call, where the first are written in the 14th.
+fn bytes_before(call: u64) -> usize {
+    PIECE * call.saturating_sub(14).min(16) as usize
 }
 
 // Three calls on each input, three on the report, one and 16 on RAM, and two on the disk.
@@ -142,7 +142,7 @@ fn each_failing_call_of_a_run_is_told_with_its_slot(rt: HostRuntime) -> Result<(
             );
             assert_eq!(rt;
                 host.taken(OutSlot::Mem).len(),
-                PIECE * pieces_before(call),
+                bytes_before(call),
                 "call {call}"
             );
             assert!(rt; host.taken(OutSlot::Save).is_empty(), "call {call}");
