@@ -21,5 +21,4 @@ Belongs System insn = IsTrue (runs_system insn)
 abbrev pub is_of_real_mode : Family → Bool
 is_of_real_mode Data = true
 is_of_real_mode Far = true
-is_of_real_mode System = true
 is_of_real_mode _ = false

@@ -25,6 +25,14 @@ enum Act {
     Segment,
     /// EFLAGS under a mask.
     Flags,
+    /// Another privilege level.
+    Level,
+    /// The control registers.
+    Control,
+    /// The debug registers.
+    Debug,
+    /// The limits and the bases of GDTR and IDTR.
+    Tables,
     /// A step of an instruction.
     Step,
     /// None of these.
@@ -48,6 +56,10 @@ fn act_of(word: &str) -> Act {
         "word" => Act::Word,
         "segment" => Act::Segment,
         "flags" => Act::Flags,
+        "level" => Act::Level,
+        "control" => Act::Control,
+        "debug" => Act::Debug,
+        "tables" => Act::Tables,
         "step" => Act::Step,
         _ => Act::Nothing,
     }
@@ -113,6 +125,23 @@ fn print_step(rt: &impl Print, machine: &mut Machine, line: &Line) -> io::Result
     Ok(())
 }
 
+/// Prints the registers of the system that a line asks for.
+fn print_system(rt: &impl Print, machine: &Machine, act: Act) -> io::Result<()> {
+    let regs = machine.regs;
+    match act {
+        Act::Control => print!(rt; " = {:x} {:x} {:x}", regs.cr0, regs.cr2, regs.cr3),
+        Act::Debug => {
+            let [a, b, c, d] = regs.dr;
+            print!(rt; " = {a:x} {b:x} {c:x} {d:x} {:x} {:x}", regs.dr6, regs.dr7)
+        }
+        Act::Tables => {
+            print!(rt; " = {:x} {:x}", regs.gdt_limit, regs.gdt_base)?;
+            print!(rt; " {:x} {:x}", regs.idt_limit, regs.idt_base)
+        }
+        _ => Ok(()),
+    }
+}
+
 /// Does what a line asks for, and prints it behind the line.
 fn print_answer(rt: &impl Print, machine: &mut Machine, line: &Line) -> io::Result<()> {
     let first = line.numbers[0];
@@ -131,6 +160,8 @@ fn print_answer(rt: &impl Print, machine: &mut Machine, line: &Line) -> io::Resu
             }
         }
         Act::Flags => print!(rt; " = {:x}", machine.regs.eflags & first)?,
+        Act::Level => machine.regs.cpl = (first % 4) as u8,
+        Act::Control | Act::Debug | Act::Tables => print_system(rt, machine, line.act)?,
         Act::Step => print_step(rt, machine, line)?,
     }
     Ok(())

@@ -16,7 +16,9 @@
 //! `small` and `big` make a machine of 16 or of 32 bits by EFLAGS and the eight registers, at EIP 100h,
 //! `at` sets EIP, `put` puts a word at a linear address, `step` runs the instruction of these bytes, and
 //! says what follows or its fault, EIP and the registers, `flags` gives EFLAGS under a mask, `word` a
-//! word, and `segment` the selector and the base of a segment register. All else says what is shown.
+//! word, and `segment` the selector and the base of a segment register. `level` sets the privilege
+//! level, `control` gives CR0, CR2 and CR3, `debug` the debug registers, and `tables` the
+//! limits and the bases of GDTR and IDTR. All else says what is shown.
 #![tactic(auto)]
 
 mod deliveries;

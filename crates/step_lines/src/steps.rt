@@ -83,14 +83,15 @@ fn instruction_of(code: &[u8], big: bool) -> Option<Result<(Insn, u8, Family), F
     }
 }
 
-/// Data instructions, far ones and those of the system run in real mode. The others do so too, but
-/// for a stack of 32 bits.
+/// Data and far instructions run in real mode. The others do so too, but for a stack of 32 bits; those
+/// of the system run where CR0 says.
 fn set_mode(regs: &mut Regs, family: Family, big: bool)
     ensures { is_of_real_mode family ≡ true → has_protection regs.new ≡ false }
 {
     regs.cr0 = match family {
-        Family::Data | Family::Far | Family::System => 0,
+        Family::Data | Family::Far => 0,
         Family::Flow | Family::Strings => { if big { PROTECTION } else { 0 } }
+        Family::System => { if big { PROTECTION } else { regs.cr0 } }
     };
 }
 
