@@ -9,7 +9,7 @@ use Rattle.mdl_dev.specs.DiskImage.{disk_bytes}
 use Rattle.mdl_board.specs.Board.{BoardState}
 use Rattle.mdl_state.specs.State.{Choice}
 use Rattle.mdl_state.specs.Machine.{Machine}
-use Rattle.reports.specs.Report.{report_text}
+use Rattle.mdl_step.specs.Report.{report_text}
 use Rattle.mdl_step.specs.Computer.{board_rules, on_board, powered, run_policy, start_of, cursor_of}
 use Rattle.mdl_step.specs.Run as written
 use Rattle.mdl_step.specs.Run.{walk_count}

@@ -1,4 +1,4 @@
--- The report of a state: seventeen lines of registers, and the 25 lines of the screen. Own: The report.
+-- The report of a state with its screen: seventeen lines of registers, and the 25 lines of the screen. Own: The report.
 use Rattle.std.specs.Prelude.{ℕ, ◌+◌, ◌*◌, ◌%◌, ◌==◌, ◌&&◌, nat_le, if◌then◌else◌, List, ◌++◌, codes, map, slice_index}
 use Rattle.std.specs.Int.{to_be_bytes, w16, w32}
 use Rattle.std.specs.Fmt.{decimal}
@@ -61,23 +61,16 @@ debug_line r = named8 (codes "dr0=") (slice_index r.dr 0) ++ named8 (codes " dr1
     ++ named8 (codes " dr2=") (slice_index r.dr 2) ++ named8 (codes " dr3=") (slice_index r.dr 3)
     ++ named8 (codes " dr6=") r.dr6 ++ named8 (codes " dr7=") r.dr7 ++ codes "\n"
 
--- where the screen begins, and where its cursor is: no screen register is built, so both are 0
-abbrev pub screen_start : State → ℕ
-screen_start s = 0
-
-abbrev pub screen_cursor : State → ℕ
-screen_cursor s = 0
-
 unfoldable pub last_line : ℕ → ℕ → ℕ → ℕ → List ℕ
 last_line cpl walks start cursor = codes "cpl=" ++ decimal cpl ++ codes " walks=" ++ decimal walks
     ++ named4 (codes " start=") start ++ named4 (codes " cursor=") cursor ++ codes "\n"
 
--- the lines of the registers
-unfoldable pub register_lines : State → ℕ → List ℕ
-register_lines s walks = steps_line s.core.steps ++ state_line s.core.activity
+-- the lines of the registers, with the number of walks, the cell where the screen starts, and that of its cursor
+unfoldable pub register_lines : State → ℕ → ℕ → ℕ → List ℕ
+register_lines s walks start cursor = steps_line s.core.steps ++ state_line s.core.activity
     ++ accumulators_line s.core.regs ++ pointers_line s.core.regs ++ control_line s.core.regs ++ segment_lines s.core.regs
     ++ table_line (codes "gdt") s.core.regs.gdt_base s.core.regs.gdt_limit ++ table_line (codes "idt") s.core.regs.idt_base s.core.regs.idt_limit
-    ++ debug_line s.core.regs ++ last_line s.core.regs.cpl walks (screen_start s) (screen_cursor s)
+    ++ debug_line s.core.regs ++ last_line s.core.regs.cpl walks start cursor
 
 -- a character of the screen as it is printed: 0 as a space, and what is not printable as a dot
 abbrev pub printed : ℕ → ℕ
@@ -95,6 +88,6 @@ screen_line physical start row = map (λ (column : ℕ). printed (byte_at physic
 unfoldable pub screen_lines : Physical → ℕ → List ℕ
 screen_lines physical start = flat_map (screen_line physical start) (range_with_len 0 25)
 
--- the report of a state, with the number of walks
-unfoldable pub report_text : State → ℕ → List ℕ
-report_text s walks = register_lines s walks ++ screen_lines s.mem.physical (screen_start s)
+-- the report
+unfoldable pub report_text : State → ℕ → ℕ → ℕ → List ℕ
+report_text s walks start cursor = register_lines s walks start cursor ++ screen_lines s.mem.physical start

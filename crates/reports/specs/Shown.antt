@@ -2,7 +2,7 @@
 use Rattle.std.specs.Prelude.{ℕ, ◌+◌, ◌*◌, List}
 use Rattle.mdl_dev.specs.Screen.{Screen}
 use Rattle.mdl_state.specs.State.{State}
-use Rattle.reports.specs.Report.{report_text}
+use Rattle.mdl_step.specs.Report.{report_text}
 
 -- the cell where the screen starts
 abbrev pub start_of : Screen → ℕ

@@ -9,8 +9,7 @@ ghost use Rattle.host_io.specs.Slots.{Same, SameBut};
 ghost use Rattle.host_io.specs.Causes.{HasCause};
 ghost use Rattle.host_io.specs.Transfers.{AppendsPrefix};
 ghost use Rattle.mdl_dev.specs.Screen.{register_of};
-ghost use Rattle.mdl_step.specs.Report.{activity_text, steps_line, state_line, accumulators_line, pointers_line, control_line, segment_line, segment_lines, table_line, debug_line, last_line, printed, screen_line, screen_lines};
-ghost use Rattle.reports.specs.Report.{register_lines};
+ghost use Rattle.mdl_step.specs.Report.{activity_text, steps_line, state_line, accumulators_line, pointers_line, control_line, segment_line, segment_lines, table_line, debug_line, last_line, printed, screen_line, screen_lines, register_lines};
 ghost use Rattle.reports.specs.Shown.{start_of, cursor_of, report_of};
 
 use crate::shown::Shown;
@@ -204,7 +203,7 @@ fn cursor_of<M: Shown>(machine: &M) -> u16
 }
 
 /// The lines of the registers.
-#[tactic(auto, unfolding(crate::specs::Report::register_lines))]
+#[tactic(auto, unfolding(mdl_step::specs::Report::register_lines))]
 fn register_lines<M: Shown>(machine: &M) -> ArrayVec<u8, ROOM>
     ensures { result.items ≡ register_lines (M.state machine.now) (M.state machine.now).mem.walks (start_of (M.screen machine.now)) (cursor_of (M.screen machine.now)) }
 {
@@ -270,7 +269,7 @@ fn screen_lines<M: Shown>(machine: &M, start: u16) -> ArrayVec<u8, SCREEN_ROOM>
 }
 
 /// Writes the report of a machine.
-#[tactic(auto, using(host_io::specs::Prefixes::prefixes), unfolding(crate::specs::Report::report_text))]
+#[tactic(auto, using(host_io::specs::Prefixes::prefixes), unfolding(mdl_step::specs::Report::report_text))]
 pub fn write_report<H: Host, M: Shown>(host: &mut H, machine: &M) -> Result<(), Failed>
     ensures ok { OnOk result (Appends (H.took host.old Report) (H.took host.new Report) (report_of (M.state machine.now) (M.screen machine.now))) }
     ensures err { OnErr result (AppendsPrefix (H.took host.old Report) (H.took host.new Report) (report_of (M.state machine.now) (M.screen machine.now))) }

@@ -1,8 +1,7 @@
 use Rattle.std.proofs.Common.{OnErr, Result, Ok, Err}
 use Rattle.host_io.specs.Prefixes.{prefix_then}
 use Rattle.host_io.specs.declared.host.OutSlot.TheVariants.{Report}
-use Rattle.mdl_step.specs.Report.{screen_lines}
-use Rattle.reports.specs.Report.{register_lines, report_text}
+use Rattle.mdl_step.specs.Report.{register_lines, report_text, screen_lines}
 use Rattle.reports.specs.Shown.{start_of, cursor_of}
 use Rattle.reports.proofs.report.write_report.Goals as goal
 
