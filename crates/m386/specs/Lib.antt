@@ -10,3 +10,4 @@ pub mod Feeding
 pub mod Running
 pub mod Writing
 pub mod FileHost
+pub mod Ending

@@ -1,7 +1,10 @@
 //! How a command ends.
 
 ghost use Rattle.std.specs.Prelude.{◌≡◌};
+ghost use Rattle.std.specs.Process.{exit_status};
 ghost use Rattle.m386.specs.Refusals.{number_of};
+
+use std::process::ExitCode;
 
 /// How a command ended.
 #[derive(Clone, Copy, Debug, PartialEq, Eq)]
@@ -36,5 +39,12 @@ impl Status {
             Status::Script => 5,
             Status::Unbuilt => 6,
         }
+    }
+
+    /// The program's end with that number.
+    pub(crate) fn code(self) -> ExitCode
+        ensures { exit_status result ≡ number_of self }
+    {
+        ExitCode::from(self.number())
     }
 }
