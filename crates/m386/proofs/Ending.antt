@@ -21,11 +21,12 @@ use Rattle.m386.specs.Inputs.{Fed, IsFed}
 use Rattle.m386.specs.Headline.{Ran, Headline, text_for}
 use Rattle.m386.specs.Demonstrated.{Demonstrated}
 use Rattle.m386.specs.Refusals.{status_of, line_of, fault_line}
-use Rattle.m386.specs.Causes.{OnlyRose, AreCounted, IsRefused}
+use Rattle.m386.specs.Causes.{OnlyRose, AreCounted, IsOpenedUpTo, IsRefused}
 use Rattle.m386.specs.Answers.{IsTold, IsDone, IsJobDone, IsEnded, IsFaulted}
 use Rattle.m386.specs.Running.{RanTo}
 use Rattle.m386.specs.Writing.{IsWriteRefused}
 use Rattle.m386.proofs.Slots.{opened_run, grown}
+use Rattle.m386.proofs.Opening.{none_behind, behind_then}
 use Rattle.m386.proofs.Writing.{cut_from}
 
 same_then : (t0 t1 t2 : Took) → Same t0 t1 → Same t1 t2 → Same t0 t2
@@ -114,14 +115,15 @@ told_from before now path f g h line first told = record {
 }
 
 -- a failure of the host, whose slot is told
-pub faulted : (words : List (List ℕ)) (left : Left) (t0 t1 t2 : Took) (path : Paths) (f g h : Counts) (refusal : Refusal) (status : Status)
+pub faulted : (words : List (List ℕ)) (left : Left) (t0 t1 t2 : Took) (p0 p1 path : Paths) (f g h : Counts) (refusal : Refusal) (status : Status)
     → IsEnded words left t0 t1 refusal → AreCounted refusal f g → status ≡ status_of refusal
     → (refusal ≢ refusals.Memory → IsTold (t1 Report) (t2 Report) (path (Out Report)) (g (Out Report)) (h (Out Report)) (line_of refusal))
     → SameBut Report t1 t2 → SameBut (Out Report) g h → g (Out Report) ≤ h (Out Report)
-    → status ≡ HostFault → IsFaulted words left t0 t2 path f h
-faulted words left t0 t1 t2 path f g h refusals.Memory status e counted is told but same later fault = cc
-faulted words left t0 t1 t2 path f g h refusals.Words status e counted is told but same later fault = cc
-faulted words left t0 t1 t2 path f g h (refusals.HostFault slot) status e counted is told but same later fault = record {
+    → SameBut (Out Report) p1 path → IsOpenedUpTo refusal p0 p1
+    → status ≡ HostFault → IsFaulted words left t0 t2 p0 path f h
+faulted words left t0 t1 t2 p0 p1 path f g h refusals.Memory status e counted is told but same later opened up fault = cc
+faulted words left t0 t1 t2 p0 p1 path f g h refusals.Words status e counted is told but same later opened up fault = cc
+faulted words left t0 t1 t2 p0 p1 path f g h (refusals.HostFault slot) status e counted is told but same later opened up fault = record {
   job = e.job;
   asks = e.asks;
   slot = slot;
@@ -132,11 +134,12 @@ faulted words left t0 t1 t2 path f g h (refusals.HostFault slot) status e counte
     told = told_from (t1 Report) (t2 Report) (path (Out Report)) (f (Out Report)) (g (Out Report)) (h (Out Report)) (fault_line slot) (at_report slot f g counted) (told (λ is. cc));
     others = but;
   };
+  behind = behind_then slot p0 p1 path (none_behind slot p0 p1 up) opened;
 }
-faulted words left t0 t1 t2 path f g h (refusals.Length slot n) status e counted is told but same later fault = cc
-faulted words left t0 t1 t2 path f g h (refusals.Script n) status e counted is told but same later fault = cc
-faulted words left t0 t1 t2 path f g h (refusals.Unbuilt steps byte) status e counted is told but same later fault = cc
-faulted words left t0 t1 t2 path f g h (refusals.Late slot) status e counted is told but same later fault = record {
+faulted words left t0 t1 t2 p0 p1 path f g h (refusals.Length slot n) status e counted is told but same later opened up fault = cc
+faulted words left t0 t1 t2 p0 p1 path f g h (refusals.Script n) status e counted is told but same later opened up fault = cc
+faulted words left t0 t1 t2 p0 p1 path f g h (refusals.Unbuilt steps byte) status e counted is told but same later opened up fault = cc
+faulted words left t0 t1 t2 p0 p1 path f g h (refusals.Late slot) status e counted is told but same later opened up fault = record {
   job = e.job;
   asks = e.asks;
   slot = Out slot;
@@ -147,4 +150,5 @@ faulted words left t0 t1 t2 path f g h (refusals.Late slot) status e counted is 
     told = told_from (t1 Report) (t2 Report) (path (Out Report)) (f (Out Report)) (g (Out Report)) (h (Out Report)) (fault_line (Out slot)) (at_report (Out slot) f g counted) (told (λ is. cc));
     others = but;
   };
+  behind = behind_then (Out slot) p0 p1 path up opened;
 }

@@ -1,4 +1,5 @@
 pub mod Slots
+pub mod Opening
 pub mod Feeding
 pub mod Writing
 pub mod Runs

@@ -13,7 +13,7 @@ use Rattle.mdl_step.specs.Computer.{board_rules, on_board, powered, run_policy}
 use Rattle.mdl_step.specs.Run.{ReachesUnbuilt}
 use Rattle.m386.specs.declared.refusals.Refusal.{Refusal}
 use Rattle.m386.specs.declared.refusals.Refusal.TheVariants as refusals
-use Rattle.m386.specs.Slots.{Left, Took, Paths, Counts}
+use Rattle.m386.specs.Slots.{Left, Took, Paths, Counts, NoneOpenedBehind}
 use Rattle.m386.specs.Inputs.{Fed, IsFed}
 use Rattle.m386.specs.Refusals.{fault_line, length_line, script_line, unbuilt_line}
 use Rattle.m386.specs.Headline.{Headline}
@@ -114,8 +114,8 @@ pub record IsRunUnbuilt (words : List (List ℕ)) (left : Left) (before now : To
   pub line : HasLine before now paths counts_before counts_now (unbuilt_line steps byte)
 
 -- The count of a slot rose. The outputs have nothing, or what the words ask for up to some first bytes of one output's
--- text, and behind that the report has the line of the slot.
-pub record IsFaulted (words : List (List ℕ)) (left : Left) (before now : Took) (paths : Paths) (counts_before counts_now : Counts) : Type 0 where
+-- text, and behind that the report has the line of the slot. No output behind the slot was opened.
+pub record IsFaulted (words : List (List ℕ)) (left : Left) (before now : Took) (paths_before paths : Paths) (counts_before counts_now : Counts) : Type 0 where
   pub job : Job
   pub asks : AsksFor words job
   pub slot : Slot
@@ -123,6 +123,7 @@ pub record IsFaulted (words : List (List ℕ)) (left : Left) (before now : Took)
   pub between : Took
   pub text : Same before between ⊎ IsCutSomewhere job left before between
   pub line : HasLine between now paths counts_before counts_now (fault_line slot)
+  pub behind : NoneOpenedBehind slot paths_before paths
 
 -- ---- completeness
 

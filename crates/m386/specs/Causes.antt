@@ -23,7 +23,7 @@ use Rattle.mdl_step.specs.Run.{ReachesUnbuilt, walk_count}
 use Rattle.reports.specs.Lines.{AppendsListingPrefix}
 use Rattle.m386.specs.declared.refusals.Refusal.{Refusal}
 use Rattle.m386.specs.declared.refusals.Refusal.TheVariants as refusals
-use Rattle.m386.specs.Slots.{Left, Took, Counts, IsCutAt}
+use Rattle.m386.specs.Slots.{Left, Took, Paths, Counts, IsCutAt, NoneOpened, NoneOpenedBehind}
 use Rattle.m386.specs.Inputs.{Fed, IsFed, IsLength, limit_of, IsLengthWrong, IsScriptWrong}
 use Rattle.m386.specs.Headline.{Ran, text_for}
 use Rattle.m386.specs.Listed.{IsRom}
@@ -110,6 +110,11 @@ IsRefused job left before now (refusals.Late slot) = IsCut job left before now s
 abbrev pub IsReady : Refusal → Option (Option (List ℕ)) → Type 0
 IsReady (refusals.Late slot) path = WasOpened path []
 IsReady _ path = ⊤
+
+-- no output was opened, or, where the refusal comes with the report open, none behind the one that failed
+abbrev pub IsOpenedUpTo : Refusal → Paths → Paths → Type 0
+IsOpenedUpTo (refusals.Late slot) before now = NoneOpenedBehind (Out slot) before now
+IsOpenedUpTo _ before now = NoneOpened before now
 
 -- no count rose but that of this slot
 pub record OnlyRose (slot : Slot) (before now : Counts) : Type 0 where

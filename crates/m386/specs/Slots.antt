@@ -1,5 +1,5 @@
 -- The slots of a call: what each has, and the path with which a job opens it.
-use Rattle.std.specs.Prelude.{◌≡◌, ◌⊎◌, ℕ, List, [], Option, None, Some}
+use Rattle.std.specs.Prelude.{◌≡◌, ◌⊎◌, ⊤, ℕ, List, [], Option, None, Some}
 use Rattle.std.specs.Io.KnownBytes.{Appends}
 use Rattle.host_io.specs.declared.host.InSlot.{InSlot}
 use Rattle.host_io.specs.declared.host.InSlot.TheVariants.{Rom, Disk, Script, Commands}
@@ -70,6 +70,17 @@ OpenedOnly (Some path) before now = (now ≡ before) ⊎ WasOpened now path
 pub record Keeps (paths : Slot → Option (List ℕ)) (left_before left_now : Left) (before now : Paths) : Type 0 where
   pub opened : (slot : Slot) → OpenedOnly (paths slot) (before slot) (now slot)
   pub unread : (slot : InSlot) → paths (In slot) ≡ None → left_now slot ≡ left_before slot
+
+-- no output was opened
+abbrev pub NoneOpened : Paths → Paths → Type 0
+NoneOpened before now = (slot : OutSlot) → now (Out slot) ≡ before (Out slot)
+
+-- no output behind this slot was opened; behind each input and the report are RAM and the disk
+abbrev pub NoneOpenedBehind : Slot → Paths → Paths → Type 0
+NoneOpenedBehind (In slot) before now = (now (Out Mem) ≡ before (Out Mem)) × (now (Out Save) ≡ before (Out Save))
+NoneOpenedBehind (Out Report) before now = (now (Out Mem) ≡ before (Out Mem)) × (now (Out Save) ≡ before (Out Save))
+NoneOpenedBehind (Out Mem) before now = now (Out Save) ≡ before (Out Save)
+NoneOpenedBehind (Out Save) before now = ⊤
 
 -- ---- outputs
 

@@ -7,7 +7,7 @@ ghost use Rattle.host_io.specs.Slots.{Same};
 ghost use Rattle.command_words.specs.Jobs.{Demo};
 ghost use Rattle.m386.specs.Slots.{Keeps, path_for};
 ghost use Rattle.m386.specs.Demonstrated.{Demonstrated};
-ghost use Rattle.m386.specs.Causes.{AreCounted, IsReady, IsRefused};
+ghost use Rattle.m386.specs.Causes.{AreCounted, IsOpenedUpTo, IsReady, IsRefused};
 
 use crate::inputs::Inputs;
 use crate::machine::run;
@@ -30,6 +30,7 @@ pub(crate) fn demo_command<H: Host>(alloc: Global, host: &mut H, number: u32) ->
     ensures refused { IfErr result (IsRefused (Demo number) (H.left host.old) (H.took host.old) (H.took host.new)) }
     ensures counted { IfErr result (λ refusal. AreCounted refusal (H.faults host.old) (H.faults host.new)) }
     ensures ready { IfErr result (λ refusal. IsReady refusal (H.path host.new (Out Report))) }
+    ensures up_to { IfErr result (λ refusal. IsOpenedUpTo refusal (H.path host.old) (H.path host.new)) }
     ensures keeps { Keeps (path_for (Demo number)) (H.left host.old) (H.left host.new) (H.path host.old) (H.path host.new) }
 {
     let Ok(rom) = make_guest(alloc, number) else {

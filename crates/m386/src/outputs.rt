@@ -14,7 +14,7 @@ ghost use Rattle.std.specs.Io.KnownBytes.{Appends};
 ghost use Rattle.command_words.specs.Jobs.{run_of, text_of};
 ghost use Rattle.m386.specs.Slots.{OpenedAs, OpenedOnly, Gets, GetsPrefix, output_path};
 ghost use Rattle.m386.specs.Headline.{report_of, text_for};
-ghost use Rattle.m386.specs.Causes.{AreCounted, IsReady};
+ghost use Rattle.m386.specs.Causes.{AreCounted, IsOpenedUpTo, IsReady};
 ghost use Rattle.m386.specs.Writing.{image_bytes, IsReportRefused, IsImageRefused, IsWriteRefused};
 
 use crate::refusals::Refusal;
@@ -135,6 +135,7 @@ pub(crate) fn report<H: Host>(host: &mut H, pc: &Pc) -> Result<(), Refusal>
     ensures kept { OnOk result (Same (H.faults host.old) (H.faults host.new)) }
     ensures counted { IfErr result (λ refusal. AreCounted refusal (H.faults host.old) (H.faults host.new)) }
     ensures ready { IfErr result (λ refusal. IsReady refusal (H.path host.new (Out Report))) }
+    ensures up_to { IfErr result (λ refusal. IsOpenedUpTo refusal (H.path host.old) (H.path host.new)) }
 {
     let Ok(()) = host.open_out(OutSlot::Report, "") else {
         return Err(Refusal::HostFault(Slot::Out(OutSlot::Report)));
@@ -159,6 +160,7 @@ pub(crate) fn write_outputs<H: Host>(host: &mut H, job: &RunJob, pc: &Pc) -> Res
     ensures kept { OnOk result (Same (H.faults host.old) (H.faults host.new)) }
     ensures counted { IfErr result (λ refusal. AreCounted refusal (H.faults host.old) (H.faults host.new)) }
     ensures ready { IfErr result (λ refusal. IsReady refusal (H.path host.new (Out Report))) }
+    ensures up_to { IfErr result (λ refusal. IsOpenedUpTo refusal (H.path host.old) (H.path host.new)) }
 {
     report(host, pc)?;
     save(host, OutSlot::Mem, job.mem, pc, Image::Ram)?;

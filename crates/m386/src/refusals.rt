@@ -169,6 +169,7 @@ pub(crate) fn refuse<H: Host>(host: &mut H, refusal: Refusal) -> Status
         (H.path host.new (Out Report)) (H.faults host.old (Out Report)) (H.faults host.new (Out Report)) (line_of refusal) }
     ensures silent { refusal ≡ Refusal.Memory → Same (H.took host.old) (H.took host.new) }
     ensures memory { refusal ≡ Refusal.Memory → Same (H.faults host.old) (H.faults host.new) }
+    ensures unopened { refusal ≡ Refusal.Memory → Same (H.path host.old) (H.path host.new) }
     ensures outputs { SameBut Report (H.took host.old) (H.took host.new) }
     ensures path { OpenedOnly (Some []) (H.path host.old (Out Report)) (H.path host.new (Out Report)) }
     ensures paths { SameBut (Out Report) (H.path host.old) (H.path host.new) }

@@ -7,7 +7,7 @@ ghost use Rattle.host_io.specs.Slots.{Same};
 ghost use Rattle.command_words.specs.Jobs.{Run, run_of, IsWithinLimits};
 ghost use Rattle.m386.specs.Slots.{Keeps, path_for};
 ghost use Rattle.m386.specs.Headline.{Headline};
-ghost use Rattle.m386.specs.Causes.{AreCounted, IsReady, IsRefused};
+ghost use Rattle.m386.specs.Causes.{AreCounted, IsOpenedUpTo, IsReady, IsRefused};
 
 use crate::inputs::read_inputs;
 use crate::machine::run;
@@ -25,6 +25,7 @@ pub(crate) fn run_command<H: Host>(alloc: Global, host: &mut H, job: &RunJob) ->
     ensures refused { IfErr result (IsRefused (Run (run_of job.now)) (H.left host.old) (H.took host.old) (H.took host.new)) }
     ensures counted { IfErr result (λ refusal. AreCounted refusal (H.faults host.old) (H.faults host.new)) }
     ensures ready { IfErr result (λ refusal. IsReady refusal (H.path host.new (Out Report))) }
+    ensures up_to { IfErr result (λ refusal. IsOpenedUpTo refusal (H.path host.old) (H.path host.new)) }
     ensures keeps { Keeps (path_for (Run (run_of job.now))) (H.left host.old) (H.left host.new) (H.path host.old) (H.path host.new) }
 {
     let inputs = read_inputs(alloc, host, &job.machine)?;

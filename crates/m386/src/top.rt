@@ -6,12 +6,12 @@ ghost use Rattle.host_io.specs.declared.host.Slot.TheVariants.{Out};
 ghost use Rattle.host_io.specs.Slots.{Same, SameBut};
 ghost use Rattle.command_words.specs.Jobs as asked;
 ghost use Rattle.command_words.specs.Jobs.{Matched, IsRun, IsDis, IsDemo, texts};
-ghost use Rattle.m386.specs.Slots.{Keeps, path_for, report_only};
+ghost use Rattle.m386.specs.Slots.{Keeps, NoneOpened, NoneOpenedBehind, path_for, report_only};
 ghost use Rattle.m386.specs.Headline.{Headline};
 ghost use Rattle.m386.specs.Listed.{Listed};
 ghost use Rattle.m386.specs.Demonstrated.{Demonstrated};
 ghost use Rattle.m386.specs.Refusals.{words_line};
-ghost use Rattle.m386.specs.Causes.{AreCounted, IsReady};
+ghost use Rattle.m386.specs.Causes.{AreCounted, IsOpenedUpTo, IsReady};
 ghost use Rattle.m386.specs.Answers.{Accepts, HasLine, IsDone, IsEnded, IsFaulted, IsImageWrong, IsRunUnbuilt, IsScriptBad, NoneServed, SomeRose, Tells};
 
 use crate::demo_command::demo_command;
@@ -30,6 +30,7 @@ fn command<H: Host>(alloc: Global, words: &[&str], host: &mut H) -> Result<(), R
     ensures refused { IfErr result (IsEnded (texts words.now) (H.left host.old) (H.took host.old) (H.took host.new)) }
     ensures counted { IfErr result (λ refusal. AreCounted refusal (H.faults host.old) (H.faults host.new)) }
     ensures ready { IfErr result (λ refusal. IsReady refusal (H.path host.new (Out Report))) }
+    ensures up_to { IfErr result (λ refusal. IsOpenedUpTo refusal (H.path host.old) (H.path host.new)) }
     ensures keeps { (job : asked.Job) → Matched (texts words.now) job
         → Keeps (path_for job) (H.left host.old) (H.left host.new) (H.path host.old) (H.path host.new) }
     ensures unasked { NoneServed (texts words.now)
@@ -67,7 +68,7 @@ pub fn m386<H: Host>(alloc: Global, words: &[&str], host: &mut H) -> Status
     ensures unbuilt { result ≡ Status.Unbuilt → IsRunUnbuilt (texts words.now) (H.left host.old)
         (H.took host.old) (H.took host.new) (H.path host.new) (H.faults host.old) (H.faults host.new) }
     ensures fault { result ≡ Status.HostFault → IsFaulted (texts words.now) (H.left host.old)
-        (H.took host.old) (H.took host.new) (H.path host.new) (H.faults host.old) (H.faults host.new) }
+        (H.took host.old) (H.took host.new) (H.path host.old) (H.path host.new) (H.faults host.old) (H.faults host.new) }
     ensures memory { result ≡ Status.Memory → Same (H.took host.old) (H.took host.new) }
 
     // What stays.
@@ -77,6 +78,10 @@ pub fn m386<H: Host>(alloc: Global, words: &[&str], host: &mut H) -> Status
         → Keeps (path_for job) (H.left host.old) (H.left host.new) (H.path host.old) (H.path host.new) }
     ensures unasked { NoneServed (texts words.now)
         → Keeps report_only (H.left host.old) (H.left host.new) (H.path host.old) (H.path host.new) }
+
+    // No output but the report is opened before the run has ended, and none where memory wants.
+    ensures unwritten { result ≢ Status.Done → result ≢ Status.HostFault → NoneOpenedBehind (Out Report) (H.path host.old) (H.path host.new) }
+    ensures unopened { result ≡ Status.Memory → NoneOpened (H.path host.old) (H.path host.new) }
 
     // What is asked for, is accepted and comes to no unbuilt step is done, unless memory wants.
     ensures complete { (job : asked.Job) → Matched (texts words.now) job → Accepts job (H.left host.old) → Tells (H.left host.old)

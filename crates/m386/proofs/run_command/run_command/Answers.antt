@@ -1,6 +1,7 @@
 use Rattle.command_words.specs.Jobs.{run_of}
 use Rattle.m386.specs.Feeding.{fed_of}
 use Rattle.m386.proofs.Slots.{counted_result}
+use Rattle.m386.proofs.Opening.{up_to_result}
 use Rattle.m386.proofs.Ending.{headline_result, write_result}
 use Rattle.m386.proofs.run_command.run_command.Goals as goal
 
@@ -24,3 +25,8 @@ pub returns-clause-counted : goal.returns-clause-counted
 returns-clause-counted g c =
     let faults = g.H.Host.faults in
     counted_result c.write_outputs.result (faults c.args.host.now) (faults c.read_inputs.new.host) (faults c.write_outputs.new.host) c.in_ok-inputs.ensures.kept c.write_outputs.ensures.counted
+
+pub returns-clause-up_to : goal.returns-clause-up_to
+returns-clause-up_to g c =
+    let path = g.H.Host.path in
+    up_to_result c.write_outputs.result (path c.args.host.now) (path c.read_inputs.new.host) (path c.write_outputs.new.host) c.in_ok-inputs.ensures.outputs c.write_outputs.ensures.up_to

@@ -2,6 +2,7 @@ use Rattle.command_words.specs.Jobs.{texts}
 use Rattle.m386.specs.Slots.{path_for}
 use Rattle.m386.proofs.Complete.{completed}
 use Rattle.m386.proofs.Ending.{done_headline, done_demo, faulted}
+use Rattle.m386.proofs.Opening.{unwritten, unopened}
 use Rattle.m386.proofs.Slots.{keeps_then, keeps_report, report_path}
 use Rattle.m386.proofs.top.m386.Goals as goal
 
@@ -16,11 +17,12 @@ returns-in-Ok-clause-demo g c = λ number matched is. done_demo (texts c.args.wo
 pub returns-in-Err-clause-fault : goal.returns-in-Err-clause-fault
 returns-in-Err-clause-fault g c =
     let took = g.H.Host.took in
+    let path = g.H.Host.path in
     let faults = g.H.Host.faults in
     let told = c.refuse.ensures in
-    faulted (texts c.args.words.now) (g.H.Host.left c.args.host.now) (took c.args.host.now) (took c.command.new.host) (took c.refuse.new.host) (g.H.Host.path c.refuse.new.host)
+    faulted (texts c.args.words.now) (g.H.Host.left c.args.host.now) (took c.args.host.now) (took c.command.new.host) (took c.refuse.new.host) (path c.args.host.now) (path c.command.new.host) (path c.refuse.new.host)
     (faults c.args.host.now) (faults c.command.new.host) (faults c.refuse.new.host) c.in-Err.refusal c.refuse.result
-    c.in-Err.ensures.refused c.in-Err.ensures.counted told.status told.line told.outputs told.faults told.later
+    c.in-Err.ensures.refused c.in-Err.ensures.counted told.status told.line told.outputs told.faults told.later told.paths c.in-Err.ensures.up_to
 
 pub returns-in-Err-clause-keeps : goal.returns-in-Err-clause-keeps
 returns-in-Err-clause-keeps g c =
@@ -38,3 +40,15 @@ returns-in-Err-clause-complete g c =
     λ job matched accepts tells calm. completed (texts c.args.words.now) (g.H.Host.left c.args.host.now) (g.H.Host.took c.args.host.now) (g.H.Host.took c.command.new.host)
     (faults c.args.host.now) (faults c.command.new.host) (faults c.refuse.new.host) job c.in-Err.refusal c.refuse.result
     c.in-Err.ensures.refused c.in-Err.ensures.counted told.status matched accepts tells calm told.faults told.later
+
+pub returns-in-Err-clause-unwritten : goal.returns-in-Err-clause-unwritten
+returns-in-Err-clause-unwritten g c =
+    let path = g.H.Host.path in
+    λ undone calm. unwritten c.in-Err.refusal c.refuse.result (path c.args.host.now) (path c.command.new.host) (path c.refuse.new.host)
+    c.in-Err.ensures.up_to c.refuse.ensures.paths c.refuse.ensures.status calm
+
+pub returns-in-Err-clause-unopened : goal.returns-in-Err-clause-unopened
+returns-in-Err-clause-unopened g c =
+    let path = g.H.Host.path in
+    unopened c.in-Err.refusal c.refuse.result (path c.args.host.now) (path c.command.new.host) (path c.refuse.new.host)
+    c.in-Err.ensures.up_to c.refuse.ensures.unopened c.refuse.ensures.status
