@@ -1,5 +1,6 @@
 pub mod Slots
 pub mod Causes
+pub mod Openings
 pub mod Transfers
 pub mod Prefixes
 pub mod History

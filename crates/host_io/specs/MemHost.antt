@@ -17,8 +17,9 @@ use Rattle.host_io.specs.contracts.mem_host.MemHost.{the_row}
 use Rattle.host_io.specs.contracts.input.Input as InputRow
 use Rattle.host_io.specs.contracts.output.Output as OutputRow
 use Rattle.host_io.specs.Causes.{risen}
+use Rattle.host_io.specs.Openings.{Openings}
 use Rattle.host_io.specs.Inputs.{bytes_left}
-use Rattle.host_io.specs.History.{last_path}
+use Rattle.host_io.specs.History.{openings_in}
 use Rattle.host_io.specs.Slots.{Same}
 
 -- ---- the slots
@@ -75,9 +76,9 @@ took_of h slot = (output_of h slot).bytes.items
 abbrev pub room_of : MemHost → OutSlot → ℕ
 room_of h slot = (output_of h slot).room
 
--- the path with which a slot was last opened
-abbrev pub path_of : MemHost → Slot → Option (List ℕ)
-path_of h slot = last_path (history_of h slot)
+-- how often a slot was opened, and the path of the last time
+abbrev pub openings_of : MemHost → Slot → Openings
+openings_of h slot = openings_in (history_of h slot)
 
 -- how often the calls on a slot failed
 abbrev pub faults_of : MemHost → Slot → ℕ
@@ -105,10 +106,10 @@ is_listed h = list_any (λ call. nat_eq call (next_call h)) (listed_of h)
 
 -- ---- what stays
 
--- what was taken, the paths and the counts
+-- what was taken, the openings and the counts
 pub record SameHistory (before now : MemHost) : Type 0 where
   pub took : Same (took_of before) (took_of now)
-  pub paths : Same (path_of before) (path_of now)
+  pub openings : Same (openings_of before) (openings_of now)
   pub faults : Same (faults_of before) (faults_of now)
   pub calls : calls_of now ≡ calls_of before
 
@@ -135,7 +136,7 @@ pub record IsNew (h : MemHost) : Type 0 where
   pub left : (slot : InSlot) → left_of h slot ≡ []
   pub took : (slot : OutSlot) → took_of h slot ≡ []
   pub room : (slot : OutSlot) → room_of h slot ≡ 0
-  pub paths : (slot : Slot) → path_of h slot ≡ None
+  pub openings : (slot : Slot) → openings_of h slot ≡ record { times = 0; last = None }
   pub faults : (slot : Slot) → faults_of h slot ≡ 0
   pub calls : calls_of h ≡ 0
   pub listed : listed_of h ≡ []

@@ -1,5 +1,5 @@
--- What a call of a host leaves alone, and what an opening does.
-use Rattle.std.specs.Prelude.{◌≡◌, ◌≢◌, ℕ, List, Option, None, Some, is_some, ⊤}
+-- What a call of a host leaves alone.
+use Rattle.std.specs.Prelude.{◌≡◌, ◌≢◌, Option, is_some}
 
 -- the same at every slot
 abbrev pub Same : {S A : Type 0} → (S → A) → (S → A) → Type 0
@@ -12,8 +12,3 @@ SameBut {S} {A} slot before now = (other : S) → other ≢ slot → now other �
 -- it tells now where it told before, and only there
 abbrev pub TellsAlike : {A : Type 0} → Option A → Option A → Type 0
 TellsAlike before now = is_some now ≡ is_some before
-
--- where the host tells, this was the path of the last opening
-abbrev pub WasOpened : Option (Option (List ℕ)) → List ℕ → Type 0
-WasOpened None path = ⊤
-WasOpened (Some last) path = last ≡ Some path

@@ -6,7 +6,8 @@ ghost use Rattle.host_io.specs.declared.host.InSlot.{InSlot};
 ghost use Rattle.host_io.specs.declared.host.OutSlot.{OutSlot};
 ghost use Rattle.host_io.specs.declared.host.Slot.{Slot};
 ghost use Rattle.host_io.specs.Causes.{HasCause};
-ghost use Rattle.host_io.specs.Slots.{Same, SameBut, TellsAlike, WasOpened};
+ghost use Rattle.host_io.specs.Openings.{Openings, OpenedOnce};
+ghost use Rattle.host_io.specs.Slots.{Same, SameBut, TellsAlike};
 
 /// What a run reads.
 #[derive(Clone, Copy, Debug, PartialEq, Eq)]
@@ -47,15 +48,15 @@ pub trait Host {
     /// What each output took, where the host tells.
     ghost took: { Self → OutSlot → Option (List ℕ) };
 
-    /// The path with which each slot was last opened, where the host tells; `Some None` if it never was.
-    ghost path: { Self → Slot → Option (Option (List ℕ)) };
+    /// How often each slot was opened, and the path of the last time, where the host tells. An opening that fails is none.
+    ghost path: { Self → Slot → Option Openings };
 
     /// How often the calls on each slot failed, up to `u64::MAX`.
     ghost faults: { Self → Slot → ℕ };
 
     /// Opens an input. What it has left is what reading it from here gives.
     fn open_in(&mut self, slot: InSlot, name: &str) -> Result<(), Failed>
-        ensures opened { OnOk result (WasOpened (path self.new (Slot.In slot)) name.now) }
+        ensures opened { OnOk result (OpenedOnce (path self.old (Slot.In slot)) (path self.new (Slot.In slot)) name.now) }
         ensures failed { OnErr result (path self.new (Slot.In slot) ≡ path self.old (Slot.In slot)) }
         ensures tells { TellsAlike (path self.old (Slot.In slot)) (path self.new (Slot.In slot)) }
         ensures paths { SameBut (Slot.In slot) (path self.old) (path self.new) }
@@ -75,7 +76,7 @@ pub trait Host {
 
     /// Opens an output. What it took before stands.
     fn open_out(&mut self, slot: OutSlot, name: &str) -> Result<(), Failed>
-        ensures opened { OnOk result (WasOpened (path self.new (Slot.Out slot)) name.now) }
+        ensures opened { OnOk result (OpenedOnce (path self.old (Slot.Out slot)) (path self.new (Slot.Out slot)) name.now) }
         ensures failed { OnErr result (path self.new (Slot.Out slot) ≡ path self.old (Slot.Out slot)) }
         ensures tells { TellsAlike (path self.old (Slot.Out slot)) (path self.new (Slot.Out slot)) }
         ensures paths { SameBut (Slot.Out slot) (path self.old) (path self.new) }

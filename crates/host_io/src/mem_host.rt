@@ -3,7 +3,8 @@
 ghost use Rattle.std.specs.Prelude.{◌≡◌, ◌<◌, ◌≤◌, ◌-◌, ◌++◌, ◌∷◌, ◌||◌, ◌==◌, [], Some, true, not, nat_lt, min, max, length, take, is_err, IfOk, OnOk, OnErr};
 ghost use Rattle.std.specs.Borrow.{sem};
 ghost use Rattle.host_io.specs.Causes.{HasCause, count_after};
-ghost use Rattle.host_io.specs.MemHost.{IsNew, IsNextCall, LendsInput, LendsOutput, SameEnds, SameHistory, SamePlan, faults_of, input_of, is_listed, left_of, listed_of, next_call, output_of, path_of, piece_of, room_of, took_of, was_put};
+ghost use Rattle.host_io.specs.Openings.{opened_once};
+ghost use Rattle.host_io.specs.MemHost.{IsNew, IsNextCall, LendsInput, LendsOutput, SameEnds, SameHistory, SamePlan, faults_of, input_of, is_listed, left_of, listed_of, next_call, output_of, openings_of, piece_of, room_of, took_of, was_put};
 ghost use Rattle.host_io.specs.Slots.{Same, SameBut};
 
 use crate::host::{Failed, Host, InSlot, OutSlot, Slot};
@@ -150,15 +151,15 @@ impl Host for MemHost {
 
     ghost took = { λ h slot. Some (took_of h slot) };
 
-    ghost path = { λ h slot. Some (path_of h slot) };
+    ghost path = { λ h slot. Some (openings_of h slot) };
 
     ghost faults = { faults_of };
 
     fn open_in(&mut self, slot: InSlot, name: &str) -> Result<(), Failed>
         ensures fails { is_err result ≡ (is_listed self.old || not (was_put self.old slot) || nat_lt 255 (length name.now)) }
-        ensures opened { OnOk result (path_of self.new (Slot.In slot) ≡ Some name.now) }
-        ensures kept { OnErr result (path_of self.new (Slot.In slot) ≡ path_of self.old (Slot.In slot)) }
-        ensures paths { SameBut (Slot.In slot) (path_of self.old) (path_of self.new) }
+        ensures opened { OnOk result (openings_of self.new (Slot.In slot) ≡ opened_once (openings_of self.old (Slot.In slot)) name.now) }
+        ensures kept { OnErr result (openings_of self.new (Slot.In slot) ≡ openings_of self.old (Slot.In slot)) }
+        ensures paths { SameBut (Slot.In slot) (openings_of self.old) (openings_of self.new) }
         ensures left { Same (left_of self.old) (left_of self.new) }
         ensures took { Same (took_of self.old) (took_of self.new) }
         ensures room { Same (room_of self.old) (room_of self.new) }
@@ -183,7 +184,7 @@ impl Host for MemHost {
         ensures lefts { SameBut slot (left_of self.old) (left_of self.new) }
         ensures took { Same (took_of self.old) (took_of self.new) }
         ensures room { Same (room_of self.old) (room_of self.new) }
-        ensures paths { Same (path_of self.old) (path_of self.new) }
+        ensures paths { Same (openings_of self.old) (openings_of self.new) }
         ensures faults { faults_of self.new (Slot.In slot) ≡ count_after (faults_of self.old (Slot.In slot)) result }
         ensures cause { HasCause (faults_of self.old) (faults_of self.new) (Slot.In slot) result }
         ensures next { IsNextCall self.old self.new }
@@ -199,9 +200,9 @@ impl Host for MemHost {
 
     fn open_out(&mut self, slot: OutSlot, name: &str) -> Result<(), Failed>
         ensures fails { is_err result ≡ (is_listed self.old || nat_lt 255 (length name.now)) }
-        ensures opened { OnOk result (path_of self.new (Slot.Out slot) ≡ Some name.now) }
-        ensures kept { OnErr result (path_of self.new (Slot.Out slot) ≡ path_of self.old (Slot.Out slot)) }
-        ensures paths { SameBut (Slot.Out slot) (path_of self.old) (path_of self.new) }
+        ensures opened { OnOk result (openings_of self.new (Slot.Out slot) ≡ opened_once (openings_of self.old (Slot.Out slot)) name.now) }
+        ensures kept { OnErr result (openings_of self.new (Slot.Out slot) ≡ openings_of self.old (Slot.Out slot)) }
+        ensures paths { SameBut (Slot.Out slot) (openings_of self.old) (openings_of self.new) }
         ensures left { Same (left_of self.old) (left_of self.new) }
         ensures took { Same (took_of self.old) (took_of self.new) }
         ensures room { Same (room_of self.old) (room_of self.new) }
@@ -228,7 +229,7 @@ impl Host for MemHost {
         ensures tooks { SameBut slot (took_of self.old) (took_of self.new) }
         ensures rooms { SameBut slot (room_of self.old) (room_of self.new) }
         ensures left { Same (left_of self.old) (left_of self.new) }
-        ensures paths { Same (path_of self.old) (path_of self.new) }
+        ensures paths { Same (openings_of self.old) (openings_of self.new) }
         ensures faults { faults_of self.new (Slot.Out slot) ≡ count_after (faults_of self.old (Slot.Out slot)) result }
         ensures cause { HasCause (faults_of self.old) (faults_of self.new) (Slot.Out slot) result }
         ensures next { IsNextCall self.old self.new }

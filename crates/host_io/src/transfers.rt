@@ -1,6 +1,6 @@
 //! An input read whole, and a piece written whole.
 
-ghost use Rattle.std.specs.Prelude.{◌≡◌, ◌+◌, ◌≤◌, ◌<◌, length, IfOk, OnOk, OnErr};
+ghost use Rattle.std.specs.Prelude.{◌≡◌, ◌≢◌, ◌+◌, ◌≤◌, ◌<◌, length, IfOk, OnOk, OnErr};
 ghost use Rattle.std.specs.Io.KnownBytes.{Appends, IsAtEnd};
 ghost use Rattle.host_io.specs.declared.host.Slot.TheVariants.{In, Out};
 ghost use Rattle.host_io.specs.Causes.{HasCause, HasReadCause};
@@ -37,6 +37,7 @@ pub fn read_all<H: Host>(
     ensures long { result ≡ Err InError.TooLong → IsOver limit (H.left host.old slot) }
     ensures one_over { result ≡ Err InError.TooLong → Takes (limit + 1) (H.left host.old slot) (H.left host.new slot) }
     ensures taken { TakesAtMost (limit + 1) (H.left host.old slot) (H.left host.new slot) }
+    ensures within { result ≢ Err InError.TooLong → TakesAtMost limit (H.left host.old slot) (H.left host.new slot) }
     ensures tells { TellsAlike (H.left host.old slot) (H.left host.new slot) }
     ensures inputs { SameBut slot (H.left host.old) (H.left host.new) }
     ensures took { Same (H.took host.old) (H.took host.new) }
@@ -53,6 +54,9 @@ pub fn read_all<H: Host>(
         };
         if count == 0 {
             return Ok(bytes);
+        }
+        if bytes.len() + count == most {
+            return Err(InError::TooLong);
         }
         if bytes.extend_from_slice(&piece[..count]).is_err() {
             return Err(InError::Memory);
