@@ -6,7 +6,8 @@ use Rattle.host_io.specs.declared.host.OutSlot.{OutSlot}
 use Rattle.host_io.specs.declared.host.OutSlot.TheVariants.{Report, Mem, Save}
 use Rattle.host_io.specs.declared.host.Slot.{Slot}
 use Rattle.host_io.specs.declared.host.Slot.TheVariants.{In, Out}
-use Rattle.host_io.specs.Slots.{SameBut, WasOpened}
+use Rattle.host_io.specs.Openings.{OpenedOnce}
+use Rattle.host_io.specs.Slots.{SameBut}
 use Rattle.host_io.specs.Transfers.{AppendsPrefix}
 use Rattle.command_words.specs.Jobs as jobs
 use Rattle.mdl_board.specs.Board.{BoardState}
@@ -37,7 +38,7 @@ report_same : (number : ℕ) (last : Machine BoardState) (to : RanTo demo_ram (d
     → report_of last last.state.mem.walks ≡ report_of to.ran.last (walk_count to.ran.choices)
 report_same number last to = ap (λ (w : ℕ). report_of last w) to.walks ∙ ap (λ (m : Machine BoardState). report_of m (walk_count to.ran.choices)) to.is_last
 
-opened_demo : (number : ℕ) (p0 p1 : Paths) → WasOpened (p1 (Out Report)) [] → SameBut (Out Report) p0 p1 → (slot : Slot) → OpenedAs (path_for (jobs.Demo number) slot) (p0 slot) (p1 slot)
+opened_demo : (number : ℕ) (p0 p1 : Paths) → OpenedOnce (p0 (Out Report)) (p1 (Out Report)) [] → SameBut (Out Report) p0 p1 → (slot : Slot) → OpenedAs (path_for (jobs.Demo number) slot) (p0 slot) (p1 slot)
 opened_demo number p0 p1 report but (In slot) = but (In slot) (λ is. cc)
 opened_demo number p0 p1 report but (Out Report) = report
 opened_demo number p0 p1 report but (Out Mem) = but (Out Mem) (λ is. cc)

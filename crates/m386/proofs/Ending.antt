@@ -7,6 +7,7 @@ use Rattle.host_io.specs.declared.host.OutSlot.TheVariants.{Report, Mem, Save}
 use Rattle.host_io.specs.declared.host.Slot.{Slot}
 use Rattle.host_io.specs.declared.host.Slot.TheVariants.{In, Out}
 use Rattle.host_io.specs.Causes.{Rose}
+use Rattle.host_io.specs.Openings.{Openings}
 use Rattle.host_io.specs.Slots.{Same, SameBut}
 use Rattle.command_words.specs.Jobs.{RunJob, Run, Demo, IsRun, IsDemo}
 use Rattle.mdl_board.specs.Board.{BoardState}
@@ -107,7 +108,7 @@ rose_from : (f g h : ℕ) → (g ≡ f) ⊎ Rose f g → Rose g h → Rose f h
 rose_from f g h (inl same) rose = subst (λ n. Rose n h) same rose
 rose_from f g h (inr first) rose = omega (arith, first, rose)
 
-told_from : (before now : Option (List ℕ)) (path : Option (Option (List ℕ))) (f g h : ℕ) (line : List ℕ) → (g ≡ f) ⊎ Rose f g → IsTold before now path g h line → IsTold before now path f h line
+told_from : (before now : Option (List ℕ)) (path : Option Openings) (f g h : ℕ) (line : List ℕ) → (g ≡ f) ⊎ Rose f g → IsTold before now path g h line → IsTold before now path f h line
 told_from before now path f g h line first told = record {
   some = told.some;
   whole = λ calm. told.whole (λ rose. calm (rose_from f g h first rose));

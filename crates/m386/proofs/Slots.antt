@@ -7,45 +7,54 @@ use Rattle.host_io.specs.declared.host.OutSlot.TheVariants.{Report, Mem, Save}
 use Rattle.host_io.specs.declared.host.Slot.{Slot}
 use Rattle.host_io.specs.declared.host.Slot.TheVariants.{In, Out}
 use Rattle.host_io.specs.Causes.{Rose}
-use Rattle.host_io.specs.Slots.{Same, SameBut, WasOpened}
+use Rattle.host_io.specs.Openings.{Openings, OpenedOnce}
+use Rattle.host_io.specs.Slots.{Same, SameBut}
 use Rattle.command_words.specs.Jobs.{Machine, RunJob, DisJob, Job, Run, Dis, Demo, Monitor}
 use Rattle.m386.specs.declared.refusals.Refusal.{Refusal}
 use Rattle.m386.specs.declared.refusals.Refusal.TheVariants as refusals
 use Rattle.m386.specs.Slots.{Left, Took, Paths, Counts, input_path, output_path, path_for, report_only, OpenedAs, OpenedOnly, Keeps}
-use Rattle.m386.specs.Causes.{OnlyRose, AreCounted}
+use Rattle.m386.specs.Causes.{OnlyRose, AreCounted, IsLineOpened, IsOpenedUpTo}
 
 -- ---- paths
 
--- what was not opened
-pub not_opened : (path : Option (List ℕ)) (before now : Option (Option (List ℕ))) → now ≡ before → OpenedOnly path before now
-not_opened None before now same = same
-not_opened (Some path) before now same = inl same
+-- what is not opened first
+then_only : (path : Option (List ℕ)) (before between now : Option Openings) → between ≡ before → OpenedOnly path between now → OpenedOnly path before now
+then_only path before between now same only = subst (λ x. OpenedOnly path x now) same only
 
-pub then_only : (path : Option (List ℕ)) (before between now : Option (Option (List ℕ))) → OpenedOnly path before between → OpenedOnly path between now → OpenedOnly path before now
-then_only None before between now first second = second ∙ first
-then_only (Some path) before between now (inl same) (inl still) = inl (still ∙ same)
-then_only (Some path) before between now (inr opened) (inl still) = inr (subst (λ x. WasOpened x path) (sym still) opened)
-then_only (Some path) before between now first (inr opened) = inr opened
+-- what is not opened later
+stays_only : (path : Option (List ℕ)) (before between now : Option Openings) → now ≡ between → OpenedOnly path before between → OpenedOnly path before now
+stays_only path before between now same only = subst (λ x. OpenedOnly path before x) (sym same) only
 
-pub keeps_then : (paths : Slot → Option (List ℕ)) (l0 l1 l2 : Left) (p0 p1 p2 : Paths) → Keeps paths l0 l1 p0 p1 → Keeps paths l1 l2 p1 p2 → Keeps paths l0 l2 p0 p2
-keeps_then paths l0 l1 l2 p0 p1 p2 first second = record {
-  opened = λ slot. then_only (paths slot) (p0 slot) (p1 slot) (p2 slot) (first.opened slot) (second.opened slot);
-  unread = λ slot none. second.unread slot none ∙ first.unread slot none;
-}
-
--- the report is opened with the empty path, and no input is read
-pub keeps_report : (paths : Slot → Option (List ℕ)) (l0 l1 : Left) (p0 p1 : Paths) → paths (Out Report) ≡ Some [] → Same l0 l1
-    → OpenedOnly (Some []) (p0 (Out Report)) (p1 (Out Report)) → SameBut (Out Report) p0 p1 → Keeps paths l0 l1 p0 p1
-keeps_report paths l0 l1 p0 p1 named left only but = record {
+-- slots are opened up to a refusal, and then at most the report for its line
+keeps_up_to : (paths : Slot → Option (List ℕ)) (l0 l1 l2 : Left) (p0 p1 p2 : Paths) → Keeps paths l0 l1 p0 p1 → Same l1 l2 → SameBut (Out Report) p1 p2
+    → OpenedOnly (paths (Out Report)) (p0 (Out Report)) (p2 (Out Report)) → Keeps paths l0 l2 p0 p2
+keeps_up_to paths l0 l1 l2 p0 p1 p2 first left but report = record {
   opened = at;
-  unread = λ slot none. left slot;
+  unread = λ slot none. left slot ∙ first.unread slot none;
 }
   where
-    at : (slot : Slot) → OpenedOnly (paths slot) (p0 slot) (p1 slot)
-    at (In slot) = not_opened (paths (In slot)) (p0 (In slot)) (p1 (In slot)) (but (In slot) (λ is. cc))
-    at (Out Report) = subst (λ path. OpenedOnly path (p0 (Out Report)) (p1 (Out Report))) (sym named) only
-    at (Out Mem) = not_opened (paths (Out Mem)) (p0 (Out Mem)) (p1 (Out Mem)) (but (Out Mem) (λ is. cc))
-    at (Out Save) = not_opened (paths (Out Save)) (p0 (Out Save)) (p1 (Out Save)) (but (Out Save) (λ is. cc))
+    at : (slot : Slot) → OpenedOnly (paths slot) (p0 slot) (p2 slot)
+    at (In slot) = stays_only (paths (In slot)) (p0 (In slot)) (p1 (In slot)) (p2 (In slot)) (but (In slot) (λ is. cc)) (first.opened (In slot))
+    at (Out Report) = report
+    at (Out Mem) = stays_only (paths (Out Mem)) (p0 (Out Mem)) (p1 (Out Mem)) (p2 (Out Mem)) (but (Out Mem) (λ is. cc)) (first.opened (Out Mem))
+    at (Out Save) = stays_only (paths (Out Save)) (p0 (Out Save)) (p1 (Out Save)) (p2 (Out Save)) (but (Out Save) (λ is. cc)) (first.opened (Out Save))
+
+-- the report is opened at most once, with the empty path
+report_once : (paths : Slot → Option (List ℕ)) (refusal : Refusal) (p0 p1 p2 : Paths) → paths (Out Report) ≡ Some [] → IsOpenedUpTo refusal p0 p1
+    → OpenedOnly (paths (Out Report)) (p0 (Out Report)) (p1 (Out Report)) → IsLineOpened refusal (p1 (Out Report)) (p2 (Out Report))
+    → OpenedOnly (paths (Out Report)) (p0 (Out Report)) (p2 (Out Report))
+report_once paths refusals.Memory p0 p1 p2 named up first line = subst (λ path. OpenedOnly path (p0 (Out Report)) (p2 (Out Report))) (sym named) (then_only (Some []) (p0 (Out Report)) (p1 (Out Report)) (p2 (Out Report)) (up Report) line)
+report_once paths refusals.Words p0 p1 p2 named up first line = subst (λ path. OpenedOnly path (p0 (Out Report)) (p2 (Out Report))) (sym named) (then_only (Some []) (p0 (Out Report)) (p1 (Out Report)) (p2 (Out Report)) (up Report) line)
+report_once paths (refusals.HostFault slot) p0 p1 p2 named up first line = subst (λ path. OpenedOnly path (p0 (Out Report)) (p2 (Out Report))) (sym named) (then_only (Some []) (p0 (Out Report)) (p1 (Out Report)) (p2 (Out Report)) (up Report) line)
+report_once paths (refusals.Length slot n) p0 p1 p2 named up first line = subst (λ path. OpenedOnly path (p0 (Out Report)) (p2 (Out Report))) (sym named) (then_only (Some []) (p0 (Out Report)) (p1 (Out Report)) (p2 (Out Report)) (up Report) line)
+report_once paths (refusals.Script n) p0 p1 p2 named up first line = subst (λ path. OpenedOnly path (p0 (Out Report)) (p2 (Out Report))) (sym named) (then_only (Some []) (p0 (Out Report)) (p1 (Out Report)) (p2 (Out Report)) (up Report) line)
+report_once paths (refusals.Unbuilt steps byte) p0 p1 p2 named up first line = subst (λ path. OpenedOnly path (p0 (Out Report)) (p2 (Out Report))) (sym named) (then_only (Some []) (p0 (Out Report)) (p1 (Out Report)) (p2 (Out Report)) (up Report) line)
+report_once paths (refusals.Late slot) p0 p1 p2 named up first line = stays_only (paths (Out Report)) (p0 (Out Report)) (p1 (Out Report)) (p2 (Out Report)) line first
+
+pub keeps_told : (paths : Slot → Option (List ℕ)) (refusal : Refusal) (l0 l1 l2 : Left) (p0 p1 p2 : Paths) → paths (Out Report) ≡ Some [] → Keeps paths l0 l1 p0 p1
+    → IsOpenedUpTo refusal p0 p1 → Same l1 l2 → IsLineOpened refusal (p1 (Out Report)) (p2 (Out Report)) → SameBut (Out Report) p1 p2 → Keeps paths l0 l2 p0 p2
+keeps_told paths refusal l0 l1 l2 p0 p1 p2 named first up left line but =
+    keeps_up_to paths l0 l1 l2 p0 p1 p2 first left but (report_once paths refusal p0 p1 p2 named up (first.opened (Out Report)) line)
 
 -- the inputs of a run are opened, and then its outputs
 pub opened_run : (job : RunJob) (p0 p1 p2 : Paths)

@@ -6,7 +6,8 @@ use Rattle.host_io.specs.declared.host.OutSlot.TheVariants.{Report}
 use Rattle.host_io.specs.declared.host.Slot.{Slot}
 use Rattle.host_io.specs.declared.host.Slot.TheVariants.{In, Out}
 use Rattle.host_io.specs.Causes.{Rose}
-use Rattle.host_io.specs.Slots.{Same, SameBut, WasOpened}
+use Rattle.host_io.specs.Openings.{Openings, WasOpened}
+use Rattle.host_io.specs.Slots.{Same, SameBut}
 use Rattle.host_io.specs.Transfers.{AppendsPrefix}
 use Rattle.command_words.specs.Jobs.{Job, Run, Dis, Demo, Monitor, Matched}
 use Rattle.mdl_step.specs.Computer.{board_rules, on_board, powered, run_policy}
@@ -75,7 +76,7 @@ SomeRose before now = (slot : Slot) × Rose (before slot) (now slot)
 
 -- The report grew by some first bytes of a line. Where its count did not rise it has the whole line, and was opened with the
 -- empty path.
-pub record IsTold (before now : Option (List ℕ)) (path : Option (Option (List ℕ))) (count_before count_now : ℕ) (line : List ℕ) : Type 0 where
+pub record IsTold (before now : Option (List ℕ)) (path : Option Openings) (count_before count_now : ℕ) (line : List ℕ) : Type 0 where
   pub some : AppendsPrefix before now line
   pub whole : ¬ (Rose count_before count_now) → Appends before now line
   pub opened : ¬ (Rose count_before count_now) → WasOpened path []

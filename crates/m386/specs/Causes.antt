@@ -1,5 +1,5 @@
 -- Why what the words ask for ends with a refusal, and what the outputs have then, before the line is written.
-use Rattle.std.specs.Prelude.{◌≡◌, ◌<◌, ⊤, ℕ, List, [], length, Option}
+use Rattle.std.specs.Prelude.{◌≡◌, ◌<◌, ⊤, ℕ, List, [], length, Option, Some}
 use Rattle.host_io.specs.declared.host.InSlot.{InSlot}
 use Rattle.host_io.specs.declared.host.InSlot.TheVariants.{Rom}
 use Rattle.host_io.specs.declared.host.OutSlot.{OutSlot}
@@ -7,7 +7,8 @@ use Rattle.host_io.specs.declared.host.OutSlot.TheVariants.{Report}
 use Rattle.host_io.specs.declared.host.Slot.{Slot}
 use Rattle.host_io.specs.declared.host.Slot.TheVariants.{Out}
 use Rattle.host_io.specs.Causes.{Rose}
-use Rattle.host_io.specs.Slots.{Same, SameBut, WasOpened}
+use Rattle.host_io.specs.Openings.{Openings, WasOpened}
+use Rattle.host_io.specs.Slots.{Same, SameBut}
 use Rattle.command_words.specs.Jobs.{RunJob, DisJob, Job, Run, Dis, Demo, Monitor}
 use Rattle.mdl_board.specs.Board.{BoardState}
 use Rattle.mdl_cpu.specs.Access.{linear_of}
@@ -23,7 +24,7 @@ use Rattle.mdl_step.specs.Run.{ReachesUnbuilt, walk_count}
 use Rattle.reports.specs.Lines.{AppendsListingPrefix}
 use Rattle.m386.specs.declared.refusals.Refusal.{Refusal}
 use Rattle.m386.specs.declared.refusals.Refusal.TheVariants as refusals
-use Rattle.m386.specs.Slots.{Left, Took, Paths, Counts, IsCutAt, NoneOpened, NoneOpenedBehind}
+use Rattle.m386.specs.Slots.{Left, Took, Paths, Counts, IsCutAt, OpenedOnly, NoneOpened, NoneOpenedBehind}
 use Rattle.m386.specs.Inputs.{Fed, IsFed, IsLength, limit_of, IsLengthWrong, IsScriptWrong}
 use Rattle.m386.specs.Headline.{Ran, text_for}
 use Rattle.m386.specs.Listed.{IsRom}
@@ -107,9 +108,14 @@ IsRefused job left before now (refusals.Unbuilt steps byte) = IsUnbuilt job left
 IsRefused job left before now (refusals.Late slot) = IsCut job left before now slot
 
 -- the report is open with the empty path, where the refusal comes with the report open
-abbrev pub IsReady : Refusal → Option (Option (List ℕ)) → Type 0
+abbrev pub IsReady : Refusal → Option Openings → Type 0
 IsReady (refusals.Late slot) path = WasOpened path []
 IsReady _ path = ⊤
+
+-- the report is opened once for the line, where it is not open yet
+abbrev pub IsLineOpened : Refusal → Option Openings → Option Openings → Type 0
+IsLineOpened (refusals.Late slot) before now = now ≡ before
+IsLineOpened _ before now = OpenedOnly (Some []) before now
 
 -- no output was opened, or, where the refusal comes with the report open, none behind the one that failed
 abbrev pub IsOpenedUpTo : Refusal → Paths → Paths → Type 0

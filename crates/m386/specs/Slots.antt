@@ -7,7 +7,7 @@ use Rattle.host_io.specs.declared.host.OutSlot.{OutSlot}
 use Rattle.host_io.specs.declared.host.OutSlot.TheVariants.{Report, Mem, Save}
 use Rattle.host_io.specs.declared.host.Slot.{Slot}
 use Rattle.host_io.specs.declared.host.Slot.TheVariants.{In, Out}
-use Rattle.host_io.specs.Slots.{WasOpened}
+use Rattle.host_io.specs.Openings.{Openings, OpenedOnce}
 use Rattle.host_io.specs.Transfers.{AppendsPrefix}
 use Rattle.command_words.specs.Jobs.{Machine, RunJob, Job, Run, Dis, Demo, Monitor}
 
@@ -19,7 +19,7 @@ abbrev pub Took : Type 0
 Took = OutSlot → Option (List ℕ)
 
 abbrev pub Paths : Type 0
-Paths = Slot → Option (Option (List ℕ))
+Paths = Slot → Option Openings
 
 abbrev pub Counts : Type 0
 Counts = Slot → ℕ
@@ -56,17 +56,17 @@ abbrev pub report_only : Slot → Option (List ℕ)
 report_only (Out Report) = Some []
 report_only slot = None
 
--- the slot was opened with its path where it has one, and else not opened
-abbrev pub OpenedAs : Option (List ℕ) → Option (Option (List ℕ)) → Option (Option (List ℕ)) → Type 0
+-- the slot was opened once, with its path, where it has one, and else not opened
+abbrev pub OpenedAs : Option (List ℕ) → Option Openings → Option Openings → Type 0
 OpenedAs None before now = now ≡ before
-OpenedAs (Some path) before now = WasOpened now path
+OpenedAs (Some path) before now = OpenedOnce before now path
 
--- the slot was opened with its path, or not opened
-abbrev pub OpenedOnly : Option (List ℕ) → Option (Option (List ℕ)) → Option (Option (List ℕ)) → Type 0
+-- the slot was opened once, with its path, or not opened
+abbrev pub OpenedOnly : Option (List ℕ) → Option Openings → Option Openings → Type 0
 OpenedOnly None before now = now ≡ before
-OpenedOnly (Some path) before now = (now ≡ before) ⊎ WasOpened now path
+OpenedOnly (Some path) before now = (now ≡ before) ⊎ OpenedOnce before now path
 
--- Slots are opened with these paths only, and an input without a path has all left that it had.
+-- Slots are opened with these paths only, each at most once, and an input without a path has all left that it had.
 pub record Keeps (paths : Slot → Option (List ℕ)) (left_before left_now : Left) (before now : Paths) : Type 0 where
   pub opened : (slot : Slot) → OpenedOnly (paths slot) (before slot) (now slot)
   pub unread : (slot : InSlot) → paths (In slot) ≡ None → left_now slot ≡ left_before slot

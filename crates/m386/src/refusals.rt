@@ -6,12 +6,12 @@ ghost use Rattle.arrayvec.specs.ArrayVec.{array_vec_len};
 ghost use Rattle.host_io.specs.declared.host.OutSlot.TheVariants.{Report};
 ghost use Rattle.host_io.specs.declared.host.Slot.TheVariants.{Out};
 ghost use Rattle.host_io.specs.Causes.{HasCause};
-ghost use Rattle.host_io.specs.Slots.{Same, SameBut, WasOpened};
+ghost use Rattle.host_io.specs.Openings.{WasOpened};
+ghost use Rattle.host_io.specs.Slots.{Same, SameBut};
 ghost use Rattle.host_io.specs.Transfers.{AppendsPrefix};
-ghost use Rattle.m386.specs.Slots.{OpenedOnly};
 ghost use Rattle.m386.specs.Refusals.{slot_name, fault_line, length_line, script_line, unbuilt_line, line_of, status_of};
 ghost use Rattle.m386.specs.Answers.{IsTold};
-ghost use Rattle.m386.specs.Causes.{IsReady};
+ghost use Rattle.m386.specs.Causes.{IsLineOpened, IsReady};
 
 use crate::status::Status;
 use arrayvec::ArrayVec;
@@ -133,7 +133,7 @@ fn status_of(refusal: Refusal) -> Status
 fn open_report<H: Host>(host: &mut H, refusal: Refusal) -> Result<(), Failed>
     requires { IsReady refusal (H.path host.old (Out Report)) }
     ensures opened { OnOk result (WasOpened (H.path host.new (Out Report)) []) }
-    ensures path { OpenedOnly (Some []) (H.path host.old (Out Report)) (H.path host.new (Out Report)) }
+    ensures path { IsLineOpened refusal (H.path host.old (Out Report)) (H.path host.new (Out Report)) }
     ensures paths { SameBut (Out Report) (H.path host.old) (H.path host.new) }
     ensures took { Same (H.took host.old) (H.took host.new) }
     ensures left { Same (H.left host.old) (H.left host.new) }
@@ -152,7 +152,7 @@ fn write_line<H: Host>(host: &mut H, refusal: Refusal) -> Result<(), Failed>
     ensures opened { OnOk result (WasOpened (H.path host.new (Out Report)) []) }
     ensures err { OnErr result (AppendsPrefix (H.took host.old Report) (H.took host.new Report) (line_of refusal)) }
     ensures outputs { SameBut Report (H.took host.old) (H.took host.new) }
-    ensures path { OpenedOnly (Some []) (H.path host.old (Out Report)) (H.path host.new (Out Report)) }
+    ensures path { IsLineOpened refusal (H.path host.old (Out Report)) (H.path host.new (Out Report)) }
     ensures paths { SameBut (Out Report) (H.path host.old) (H.path host.new) }
     ensures left { Same (H.left host.old) (H.left host.new) }
     ensures cause { HasCause (H.faults host.old) (H.faults host.new) (Out Report) result }
@@ -171,7 +171,7 @@ pub(crate) fn refuse<H: Host>(host: &mut H, refusal: Refusal) -> Status
     ensures memory { refusal ≡ Refusal.Memory → Same (H.faults host.old) (H.faults host.new) }
     ensures unopened { refusal ≡ Refusal.Memory → Same (H.path host.old) (H.path host.new) }
     ensures outputs { SameBut Report (H.took host.old) (H.took host.new) }
-    ensures path { OpenedOnly (Some []) (H.path host.old (Out Report)) (H.path host.new (Out Report)) }
+    ensures path { IsLineOpened refusal (H.path host.old (Out Report)) (H.path host.new (Out Report)) }
     ensures paths { SameBut (Out Report) (H.path host.old) (H.path host.new) }
     ensures left { Same (H.left host.old) (H.left host.new) }
     ensures faults { SameBut (Out Report) (H.faults host.old) (H.faults host.new) }

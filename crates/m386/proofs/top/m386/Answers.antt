@@ -1,9 +1,10 @@
+use Rattle.std.proofs.Common.{refl}
 use Rattle.command_words.specs.Jobs.{texts}
-use Rattle.m386.specs.Slots.{path_for}
+use Rattle.m386.specs.Slots.{path_for, report_only}
 use Rattle.m386.proofs.Complete.{completed}
 use Rattle.m386.proofs.Ending.{done_headline, done_demo, faulted}
 use Rattle.m386.proofs.Opening.{unwritten, unopened}
-use Rattle.m386.proofs.Slots.{keeps_then, keeps_report, report_path}
+use Rattle.m386.proofs.Slots.{keeps_told, report_path}
 use Rattle.m386.proofs.top.m386.Goals as goal
 
 pub returns-in-Ok-clause-headline : goal.returns-in-Ok-clause-headline
@@ -29,9 +30,18 @@ returns-in-Err-clause-keeps g c =
     let left = g.H.Host.left in
     let path = g.H.Host.path in
     let told = c.refuse.ensures in
-    λ job matched. keeps_then (path_for job) (left c.args.host.now) (left c.command.new.host) (left c.refuse.new.host) (path c.args.host.now) (path c.command.new.host) (path c.refuse.new.host)
-    (c.in-Err.ensures.keeps job matched)
-    (keeps_report (path_for job) (left c.command.new.host) (left c.refuse.new.host) (path c.command.new.host) (path c.refuse.new.host) (report_path job) told.left told.path told.paths)
+    λ job matched. keeps_told (path_for job) c.in-Err.refusal (left c.args.host.now) (left c.command.new.host) (left c.refuse.new.host)
+    (path c.args.host.now) (path c.command.new.host) (path c.refuse.new.host) (report_path job)
+    (c.in-Err.ensures.keeps job matched) c.in-Err.ensures.up_to told.left told.path told.paths
+
+pub returns-in-Err-clause-unasked : goal.returns-in-Err-clause-unasked
+returns-in-Err-clause-unasked g c =
+    let left = g.H.Host.left in
+    let path = g.H.Host.path in
+    let told = c.refuse.ensures in
+    λ none. keeps_told report_only c.in-Err.refusal (left c.args.host.now) (left c.command.new.host) (left c.refuse.new.host)
+    (path c.args.host.now) (path c.command.new.host) (path c.refuse.new.host) refl
+    (c.in-Err.ensures.unasked none) c.in-Err.ensures.up_to told.left told.path told.paths
 
 pub returns-in-Err-clause-complete : goal.returns-in-Err-clause-complete
 returns-in-Err-clause-complete g c =
