@@ -10,7 +10,7 @@ mod report;
 mod shown;
 mod texts;
 
-pub use listing::write_listing;
-pub use report::write_report;
+pub use listing::{Line, line_with, write_listing};
+pub use report::{SCREEN_ROOM, register_lines, screen_lines, write_report};
 pub use shown::Shown;
-pub use texts::{ROOM, push_byte, push_decimal, push_text};
+pub use texts::{ROOM, push_byte, push_decimal, push_hex, push_text};

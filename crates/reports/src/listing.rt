@@ -18,10 +18,10 @@ use insn_print::print;
 
 /// A line of a listing.
 #[derive(Drop)]
-struct Line {
-    text: ArrayVec<u8, ROOM>,
+pub struct Line {
+    pub text: ArrayVec<u8, ROOM>,
     /// How many bytes it covers.
-    covered: usize,
+    pub covered: usize,
 }
 
 /// Bytes in two digits each.
@@ -36,10 +36,11 @@ fn push_bytes(text: &mut ArrayVec<u8, ROOM>, bytes: &[u8])
 }
 
 /// The line of these bytes at an address, with this text.
-fn line_with(at: u32, bytes: &[u8], name: &[u8]) -> Line
+pub fn line_with(at: u32, bytes: &[u8], name: &[u8]) -> Line
     requires bytes { length bytes.now ≤ 15 }
     requires text { length name.now ≤ 96 }
     ensures text { result.text.items ≡ hex 8 at ++ codes " " ++ bytes_text bytes.now ++ codes " " ++ name.now ++ 0x0A ∷ [] }
+    ensures length { array_vec_len result.text ≤ 137 }
     ensures covered { result.covered ≡ length bytes.now }
 {
     let mut text = ArrayVec::new();

@@ -31,7 +31,7 @@ const COLUMNS: u32 = 80;
 const ROWS: u32 = 25;
 
 /// Room for the rows of the screen.
-const SCREEN_ROOM: usize = 2048;
+pub const SCREEN_ROOM: usize = 2048;
 
 /// What the processor does, in a word.
 fn activity_text(activity: Activity) -> &'static str
@@ -204,7 +204,7 @@ fn cursor_of<M: Shown>(machine: &M) -> u16
 
 /// The lines of the registers.
 #[tactic(auto, unfolding(mdl_step::specs::Report::register_lines))]
-fn register_lines<M: Shown>(machine: &M) -> ArrayVec<u8, ROOM>
+pub fn register_lines<M: Shown>(machine: &M) -> ArrayVec<u8, ROOM>
     ensures { result.items ≡ register_lines (M.state machine.now) (M.state machine.now).mem.walks (start_of (M.screen machine.now)) (cursor_of (M.screen machine.now)) }
 {
     let regs = machine.regs();
@@ -258,9 +258,10 @@ fn push_row<M: Shown>(text: &mut ArrayVec<u8, SCREEN_ROOM>, machine: &M, start: 
 
 /// The rows of the screen.
 #[tactic(auto, using(crate::proofs::Screen::rows), unfolding(mdl_step::specs::Report::screen_lines))]
-fn screen_lines<M: Shown>(machine: &M, start: u16) -> ArrayVec<u8, SCREEN_ROOM>
-    ensures { result.items ≡ screen_lines (M.state machine.now).mem.physical start }
+pub fn screen_lines<M: Shown>(machine: &M) -> ArrayVec<u8, SCREEN_ROOM>
+    ensures { result.items ≡ screen_lines (M.state machine.now).mem.physical (start_of (M.screen machine.now)) }
 {
+    let start = start_of(machine);
     let mut text = ArrayVec::new();
     for row in 0..ROWS {
         push_row(&mut text, machine, start, row);
@@ -279,10 +280,6 @@ pub fn write_report<H: Host, M: Shown>(host: &mut H, machine: &M) -> Result<(), 
     ensures cause { HasCause (H.faults host.old) (H.faults host.new) (Out Report) result }
 {
     write_all(host, OutSlot::Report, register_lines(machine).as_slice())?;
-    write_all(
-        host,
-        OutSlot::Report,
-        screen_lines(machine, start_of(machine)).as_slice(),
-    )?;
+    write_all(host, OutSlot::Report, screen_lines(machine).as_slice())?;
     Ok(())
 }

@@ -64,7 +64,7 @@ fn digit(n: u8) -> u8
 }
 
 /// The low hexadecimal digits of a number, so many of them.
-pub(crate) fn push_hex(text: &mut ArrayVec<u8, ROOM>, digits: u8, number: u32)
+pub fn push_hex(text: &mut ArrayVec<u8, ROOM>, digits: u8, number: u32)
     requires { array_vec_len text.old + digits ≤ ROOM }
     ensures text { text.new.items ≡ text.old.items ++ hex digits number }
     ensures length { array_vec_len text.new ≡ array_vec_len text.old + digits }

@@ -17,4 +17,4 @@ returns-in_err-write_all-2-clause-err g c = on_err c.from_residual-in_err-write_
     (register_lines (g.M.Shown.state c.args.machine.now) (g.M.Shown.state c.args.machine.now).mem.walks (start_of (g.M.Shown.screen c.args.machine.now)) (cursor_of (g.M.Shown.screen c.args.machine.now)))
     (screen_lines (g.M.Shown.state c.args.machine.now).mem.physical (start_of (g.M.Shown.screen c.args.machine.now)))
     (rw (c.as_slice.ensures.value, c.register_lines.ensures) at c.in_ok-write_all.ensures.ok)
-    (rw (c.as_slice-2.ensures.value, c.screen_lines.ensures, c.start_of.ensures) at c.in_err-write_all-2.ensures.err))
+    (rw (c.as_slice-2.ensures.value, c.screen_lines.ensures) at c.in_err-write_all-2.ensures.err))
