@@ -1,3 +1,6 @@
 pub mod Commands
 pub mod LineEnds
 pub mod Numbers
+pub mod Rows
+pub mod Codes
+pub mod Steps

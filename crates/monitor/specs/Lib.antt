@@ -1,0 +1,6 @@
+pub mod Stops
+pub mod Moves
+pub mod Places
+pub mod Bytes
+pub mod Answers
+pub mod Reading

@@ -2,6 +2,7 @@
 
 ghost use Rattle.std.specs.Prelude.{◌∷◌, IfSome, IfNone, IfOk, OnErr};
 ghost use Rattle.mdl_text.specs.CommandLine.{IsCommand, IsNoCommand};
+ghost use Rattle.monitor.specs.Answers.{IsShort};
 
 use crate::operands::{address_of, small_count_of, steps_of, stretch_of};
 use mdl_text::Command;
@@ -23,6 +24,7 @@ pub struct NotACommand;
 /// lines drops the line feed, and one carriage return before it.
 pub fn read_line(line: &[u8]) -> Result<Command, NotACommand>
     ensures command { IfOk result (λ command. IsCommand line.now command) }
+    ensures short { IfOk result IsShort }
     ensures refused { OnErr result (IsNoCommand line.now) }
 {
     let command = match line {
@@ -40,6 +42,7 @@ pub fn read_line(line: &[u8]) -> Result<Command, NotACommand>
 /// The command of a letter with operands.
 fn with_operands(letter: u8, operands: &[u8]) -> Option<Command>
     ensures some { IfSome result (λ command. IsCommand (letter ∷ 32 ∷ operands.now) command) }
+    ensures short { IfSome result IsShort }
     ensures none { IfNone result (IsNoCommand (letter ∷ 32 ∷ operands.now)) }
 {
     match letter {
