@@ -5,4 +5,4 @@ pub mod ChipBytes
 pub mod PairBytes
 pub mod Ranges
 pub mod Images
-pub mod Pulses
+pub mod Periods

@@ -4,6 +4,7 @@
 //! Read `mdl_dev/specs/PicPair.antt` first for the controllers, and `Pit.antt` there for the timer.
 #![tactic(auto)]
 
+mod bursts;
 mod command_words;
 mod control;
 mod counter;

@@ -1,12 +1,13 @@
 //! The timer, at its ports.
 
 ghost use Rattle.std.specs.Prelude.{◌≡◌, ◌<◌, IsTrue};
-ghost use Rattle.mdl_dev.specs.Pit.{behind_read, boot, command_of, commanded, counter_of, gate_set, has_risen, pulse, pulses, read, read_back_all, rises, select_of, with_counter, written};
+ghost use Rattle.mdl_dev.specs.Pit.{behind_read, boot, command_of, commanded, counter_of, gate_set, has_risen, pulses, read, read_back_all, select_of, with_counter, written};
 ghost use Rattle.mdl_dev.specs.PitImage.{is_in_range};
 
+use crate::bursts::pulse_many;
 use crate::control::{command_of, port_of, select_of};
 use crate::counter::{latch_count, read_back, read_byte, set_up, write_byte};
-use crate::modes::{drop_gate, pulse_counter, raise_gate};
+use crate::modes::{drop_gate, raise_gate};
 use mdl_dev::pit::{Command, Counter, Port, Select, Stage, Timer};
 use std::marker::Model;
 
@@ -184,29 +185,16 @@ impl Pit {
         self.counter(select_of(counter)).out
     }
 
-    /// One pulse of the clock, and whether OUT 0 rose.
-    fn pulse_once(&mut self) -> bool
-        ensures rose { result ≡ rises self.old self.new }
-        ensures new { self.new ≡ pulse self.old }
-    {
-        let before = self.timer.counter0.out;
-        pulse_counter(&mut self.timer.counter0, true);
-        pulse_counter(&mut self.timer.counter1, true);
-        pulse_counter(&mut self.timer.counter2, self.timer.gate2);
-        !before && self.timer.counter0.out
-    }
-
     /// So many pulses of the clock of all three counters. It tells whether OUT 0 rose in one of
     /// them, which asks for the interrupt of the timer.
-    #[tactic(auto, using(crate::proofs::Pulses::pulses_next, crate::proofs::Pulses::risen_next), unfolding(mdl_dev::specs::Pit::pulses, mdl_dev::specs::Pit::has_risen))]
+    #[tactic(auto, using(crate::proofs::Periods::pulses_apart, crate::proofs::Periods::risen_apart))]
     pub fn pulse(&mut self, n: u32) -> bool
         ensures rose { result ≡ has_risen n self.old }
         ensures new { self.new ≡ pulses n self.old }
     {
-        let mut rose = false;
-        for _made in 0..n {
-            rose |= self.pulse_once();
-        }
+        let rose = pulse_many(&mut self.timer.counter0, true, n);
+        pulse_many(&mut self.timer.counter1, true, n);
+        pulse_many(&mut self.timer.counter2, self.timer.gate2, n);
         rose
     }
 }
