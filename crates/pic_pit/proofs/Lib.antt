@@ -6,3 +6,4 @@ pub mod PairBytes
 pub mod Ranges
 pub mod Images
 pub mod Periods
+pub mod Quiet

@@ -101,7 +101,7 @@ fn count_rate(counter: &mut Counter)
 }
 
 /// Mode 3: the last count of a half period.
-fn last_of_half(counter: &Counter) -> u32
+pub(crate) fn last_of_half(counter: &Counter) -> u32
     ensures { result ≡ last_of_half counter.now }
 {
     if counter.loaded % 2 == 1 && counter.out {
