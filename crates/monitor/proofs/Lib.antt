@@ -4,3 +4,5 @@ pub mod Numbers
 pub mod Rows
 pub mod Codes
 pub mod Steps
+pub mod Sessions
+pub mod LineAnswers

@@ -4,3 +4,6 @@ pub mod Places
 pub mod Bytes
 pub mod Answers
 pub mod Reading
+pub mod Session
+pub mod Unread
+pub mod LineSteps
