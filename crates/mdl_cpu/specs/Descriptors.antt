@@ -21,6 +21,10 @@ is_null sel = nat_lt sel 4
 abbrev pub rpl : ℕ → ℕ
 rpl sel = sel % 4
 
+-- the selector with this RPL
+abbrev pub with_rpl : ℕ → ℕ → ℕ
+with_rpl sel level = sel - rpl sel + level
+
 -- the table indicator: the local table, and not the global one
 abbrev pub in_ldt : ℕ → Bool
 in_ldt sel = bit sel 2
