@@ -8,7 +8,11 @@ pub mod Stack
 pub mod Descriptors
 pub mod Loads
 pub mod Visibility
+pub mod GateDescriptors
+pub mod TaskSegments
+pub mod InnerStacks
 pub mod Transfers
+pub mod Virtual
 pub mod Returns
 pub mod Breakpoints
 pub mod Causes
