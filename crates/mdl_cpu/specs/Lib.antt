@@ -16,6 +16,7 @@ pub mod Virtual
 pub mod Returns
 pub mod Breakpoints
 pub mod Causes
+pub mod InterruptGates
 pub mod Gates
 pub mod DoubleFault
 pub mod Delivery
