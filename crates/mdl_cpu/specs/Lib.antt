@@ -18,6 +18,7 @@ pub mod Breakpoints
 pub mod Causes
 pub mod InterruptGates
 pub mod Gates
+pub mod Tasks
 pub mod DoubleFault
 pub mod Delivery
 pub mod Deliveries
