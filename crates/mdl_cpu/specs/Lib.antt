@@ -19,6 +19,9 @@ pub mod Causes
 pub mod InterruptGates
 pub mod Gates
 pub mod Tasks
+pub mod OldTask
+pub mod NewTask
+pub mod Switch
 pub mod DoubleFault
 pub mod Delivery
 pub mod Deliveries
