@@ -1,4 +1,4 @@
--- The way of an interrupt or exception to its handler, in real mode. Manual, chapters 9 and 14.
+-- The way of an interrupt or exception to its handler: that of real mode, and by the mode. Manual, chapters 9 and 14.
 use Rattle.std.specs.Prelude.{ℕ, ◌+◌, ◌*◌, ◌%◌, ◌^◌, nat_lt, Bool, if◌then◌else◌, List, [], ◌∷◌}
 use Rattle.mdl_state.specs.declared.Size.TheVariants.{B2}
 use Rattle.mdl_state.specs.declared.Seg.TheVariants.{Cs}
@@ -16,6 +16,9 @@ use Rattle.mdl_cpu.specs.SystemFlags.{TF, IF, RF}
 use Rattle.mdl_cpu.specs.Loads.{with_selector}
 use Rattle.mdl_cpu.specs.Stack.{push_plan}
 use Rattle.mdl_cpu.specs.Causes.{saved_eip}
+use Rattle.mdl_cpu.specs.Segments.{has_protection}
+use Rattle.mdl_cpu.specs.Transfers.{Transfer, made}
+use Rattle.mdl_cpu.specs.InterruptGates.{protected_gate_plan}
 
 -- the double fault, whose code is 0
 abbrev pub double_fault : Fault
@@ -61,6 +64,10 @@ real_gate_plan cause r =
 -- the registers at the handler of a cause, or the fault on the way
 unfoldable pub gate_plan : Cause → Regs → Plan Regs
 gate_plan cause r = real_gate_plan cause r
+
+-- the same by the mode, with whether it leads to a handler or to another task; V86 has the gates of protected mode
+unfoldable pub gate_way_plan : Cause → Regs → Plan Transfer
+gate_way_plan cause r = if has_protection r then protected_gate_plan cause r else then_plan (real_gate_plan cause r) made
 
 -- EXT in the code of a fault on the way
 abbrev pub with_ext : {A : Type 0} → Bool → Outcome A × Mem → Outcome A × Mem
