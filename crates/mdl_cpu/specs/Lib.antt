@@ -24,4 +24,5 @@ pub mod NewTask
 pub mod Switch
 pub mod DoubleFault
 pub mod Delivery
+pub mod TaskDeliveries
 pub mod Deliveries
