@@ -1,4 +1,5 @@
 pub mod AddressLaws
 pub mod GateLaws
+pub mod ModeLaws
 pub mod ServingLaws
 pub mod DeliveryLaws
