@@ -106,13 +106,13 @@ handler_stays cause r ip cs =
 -- ---- plans
 
 -- each way through the plan that passes ends so, and no check fails with a benign fault
-record Ways {A : Type 0} (P : A → Type 0) (plan : Plan A) : Type 0 where
+pub record Ways {A : Type 0} (P : A → Type 0) (plan : Plan A) : Type 0 where
   pub ends : Ends P Serious plan
 
-passes : {A : Type 0} {P : A → Type 0} {x : A} → P x → Ways P (Done x)
+pub passes : {A : Type 0} {P : A → Type 0} {x : A} → P x → Ways P (Done x)
 passes h = record { ends = h }
 
-then_way : {A B : Type 0} {R : A → Type 0} {P : B → Type 0} {plan : Plan A} {f : A → Plan B} → Ways R plan → ((x : A) → R x → Ways P (f x)) → Ways P (then_plan plan f)
+pub then_way : {A B : Type 0} {R : A → Type 0} {P : B → Type 0} {plan : Plan A} {f : A → Plan B} → Ways R plan → ((x : A) → R x → Ways P (f x)) → Ways P (then_plan plan f)
 then_way {A} {B} {R} {P} {plan} {f} h k = record { ends = then_ends R P Serious plan f h.ends (λ x y. (k x y).ends) }
 
 load_way : {A : Type 0} {P : A → Type 0} (lin : ℕ) (size : Size) (k : ℕ → Plan A) → ((value : ℕ) → Ways P (k value)) → Ways P (Load lin size Tables k)
@@ -122,7 +122,7 @@ row_way : {A : Type 0} (P : A → Type 0) (holds : Bool) (fault : Fault) (k : Un
 row_way P true fault k s h = record { ends = s }
 row_way P false fault k s h = h
 
-stack_store : (allowed : Bool) (at : ℕ) (r : Regs) (size : Size) (value : ℕ)
+pub stack_store : (allowed : Bool) (at : ℕ) (r : Regs) (size : Size) (value : ℕ)
     → Ways (λ (_ : Unit {0}). ⊤) (checked (cond allowed (Ok at) (Err (segment_fault Ss))) (λ at. Store at size value (who_of r) (Done tt)))
 stack_store true at r size value = record { ends = tt }
 stack_store false at r size value = record { ends = tt }

@@ -1,5 +1,7 @@
 pub mod AddressLaws
 pub mod GateLaws
 pub mod ModeLaws
+pub mod WorkedRows
+pub mod WayLaws
 pub mod ServingLaws
 pub mod DeliveryLaws
