@@ -20,7 +20,7 @@ use Rattle.mdl_cpu.specs.DoubleFault.{class_of, class_of_fault, by_class, combin
 use Rattle.mdl_cpu.specs.Delivery.{Arrival, running, shut_down, delivered_once, followed_by, deliveries, deliver}
 use Rattle.mdl_cpu.specs.Deliveries.{IsSerious, Serious, IfFailed, IsStep, RaisesPageFaults, ServesAll, KeepsWatch}
 use Rattle.mdl_cpu.proofs.GateLaws.{gate_ends}
-use Rattle.mdl_cpu.proofs.ServingLaws.{tried_serious, tried_steps, tried_keeps, then_kept, by_pick_raises, by_list_raises}
+use Rattle.mdl_cpu.proofs.ServingLaws.{tried_serious, tried_steps, tried_keeps, then_kept}
 
 -- ---- one delivery
 
@@ -28,7 +28,7 @@ extended_if : (b : Bool) (f g : Fault) → Serious f → Serious g → Serious (
 extended_if true f g x y = x
 extended_if false f g x y = y
 
-extended_serious : (ext : Bool) (fault : Fault) → Serious fault → Serious (extended ext fault)
+pub extended_serious : (ext : Bool) (fault : Fault) → Serious fault → Serious (extended ext fault)
 extended_serious ext fault h = extended_if (ext && not (fault.vector == 14) && not (fault.vector == 8)) (record fault { code = fault.code - fault.code % 2 + 1 }) fault h h
 
 finished_serious : (ext : Bool) (w : Outcome Regs × Mem) → IfFailed Serious w.0 → IfFailed Serious (finished (with_ext ext w)).0
@@ -81,7 +81,7 @@ combine_falls cause fault s = falls (class_of cause) (class_of_fault fault.vecto
 
 -- ---- more deliveries than the rank are not made
 
-followed_same : (n a : ℕ) (o : Option Fault) (r : Regs) (m : Mem) (x y : Cause → Regs → Mem → Outcome Arrival × Mem)
+pub followed_same : (n a : ℕ) (o : Option Fault) (r : Regs) (m : Mem) (x y : Cause → Regs → Mem → Outcome Arrival × Mem)
     → IfSome o (λ next. rank_of (class_of_fault next.vector) < a) → a ≤ n → ((c : Cause) (q : Regs) (k : Mem) → rank_of (class_of c) < n → x c q k ≡ y c q k)
     → followed_by o r m x ≡ followed_by o r m y
 followed_same n a None r m x y h l e = refl
@@ -106,7 +106,7 @@ rank_below Contributory = omega arith
 rank_below PageFault = omega arith
 rank_below DoubleFault = omega arith
 
-more_below : (a : Class) (n : ℕ) → rank_of a < 4 + n
+pub more_below : (a : Class) (n : ℕ) → rank_of a < 4 + n
 more_below a n = let h = rank_below a in omega (arith, h)
 
 -- NO FIFTH: with more deliveries allowed than four none more is made.

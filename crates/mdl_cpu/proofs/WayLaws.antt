@@ -1,18 +1,18 @@
 -- The faults that the checks raise on the way through a gate of protected mode: none of them is benign.
-use Rattle.std.proofs.Common.{◌≡◌, ℕ, zero, suc, Bool, true, false, refl, [], ◌∷◌, Option, Some, None}
-use Rattle.std.specs.Prelude.{⊤, List, Result, Ok, Err, if◌then◌else◌, ◌+◌, ◌*◌, ◌%◌, ◌^◌, ◌==◌, ◌&&◌, ◌||◌, not, nat_lt}
+use Rattle.std.proofs.Common.{ℕ, Bool, true, false, [], ◌∷◌, Option, Some, None}
+use Rattle.std.specs.Prelude.{⊤, List, Result, Err, if◌then◌else◌, nat_lt}
 use Rattle.mdl_state.specs.declared.Size.{Size}
 use Rattle.mdl_state.specs.declared.Seg.{Seg}
 use Rattle.mdl_state.specs.declared.Seg.TheVariants.{Ss}
 use Rattle.mdl_state.specs.declared.Regs.{Regs}
 use Rattle.mdl_state.specs.declared.Fault.{Fault}
 use Rattle.mdl_state.specs.Bytes.{bit}
-use Rattle.mdl_state.specs.Attempt.{Plan, Done, Load, Store, then_plan, checked}
+use Rattle.mdl_state.specs.Attempt.{Plan, checked}
 use Rattle.mdl_cpu.specs.declared.Cause.{Cause}
 use Rattle.mdl_cpu.specs.declared.Desc.{Desc}
-use Rattle.mdl_cpu.specs.Segments.{who_of, is_virtual}
+use Rattle.mdl_cpu.specs.Segments.{is_virtual}
 use Rattle.mdl_cpu.specs.Faults.{Row, row, first_of, fault_at}
-use Rattle.mdl_cpu.specs.Access.{legal, segment_fault, load_from, store_to}
+use Rattle.mdl_cpu.specs.Access.{legal, store_to}
 use Rattle.mdl_cpu.specs.Stack.{push_plan}
 use Rattle.mdl_cpu.specs.Descriptors.{is_outside, place_of, descriptor_at, descriptor_plan, mark_plan, accessed_plan}
 use Rattle.mdl_cpu.specs.Loads.{known_plan, stack_rows, stack_plan}
@@ -20,8 +20,8 @@ use Rattle.mdl_cpu.specs.DoubleFault.{class_of_fault}
 use Rattle.mdl_cpu.specs.Deliveries.{IsSerious, Serious}
 use Rattle.mdl_cpu.specs.TaskSegments.{has_wide_tss, level_rows, level_stack_plan}
 use Rattle.mdl_cpu.specs.InnerStacks.{InnerStack, inner_stack_plan, push_stack_plan}
-use Rattle.mdl_cpu.specs.GateDescriptors.{is_task_gate, gate_selector, gate_size, gate_offset, target_rows, target_plan, level_of}
-use Rattle.mdl_cpu.specs.Transfers.{Transfer, enter_plan}
+use Rattle.mdl_cpu.specs.GateDescriptors.{is_task_gate, gate_selector, target_rows, target_plan}
+use Rattle.mdl_cpu.specs.Transfers.{enter_plan}
 use Rattle.mdl_cpu.specs.InterruptGates.{table_rows, vector_rows, vector_plan, handler_rows, without_virtual, push_segments_plan, inner_frame_plan, begin_frame_plan, push_code_plan, end_frame_plan, keep_stack_plan, handler_plan, through_code_plan, protected_gate_plan}
 use Rattle.mdl_cpu.proofs.GateLaws.{Ways, passes, then_way, stack_store}
 

@@ -24,8 +24,8 @@ use Rattle.mdl_cpu.specs.declared.Cause.{Cause}
 use Rattle.mdl_cpu.specs.declared.Switched.{Switched}
 use Rattle.mdl_num.specs.Flags.{with_bit}
 use Rattle.mdl_state.specs.Accesses.{got, translated, seen_byte, got_from, held_bytes, read_at, written_at, committed, discarded}
-use Rattle.mdl_state.specs.Attempt.{tried, attempt, then_plan}
-use Rattle.mdl_state.specs.Boot.{reset_regs, plain_mem, unusable}
+use Rattle.mdl_state.specs.Attempt.{tried, then_plan}
+use Rattle.mdl_state.specs.Boot.{reset_regs, plain_mem}
 use Rattle.mdl_state.specs.Bytes.{little_bytes, with_bytes}
 use Rattle.mdl_state.specs.Memory.{byte_at, placed}
 use Rattle.mdl_state.specs.Registers.{seg_of, reg_of, with_reg, with_seg}
@@ -34,12 +34,11 @@ use Rattle.mdl_state.specs.State.{Mem}
 use Rattle.mdl_state.specs.declared.Activity.{Activity}
 use Rattle.mdl_state.specs.declared.Hidden.{Hidden}
 use Rattle.mdl_state.specs.declared.Regs.{Regs}
-use Rattle.mdl_state.specs.declared.Seg.TheVariants.{Es, Cs, Ss, Ds, Fs, Gs}
+use Rattle.mdl_state.specs.declared.Seg.TheVariants.{Es, Cs, Ss, Ds, Gs}
 use Rattle.mdl_state.specs.declared.Size.TheVariants.{B1, B2, B4}
-use Rattle.std.proofs.Common.{◌≡◌, ℕ, zero, suc, Bool, true, false, refl, [], Option, Some, None}
-use Rattle.std.specs.Prelude.{◌+◌, ◌*◌, ◌-◌, ◌^◌, ◌%◌, List, ◌∷◌, ◌++◌, replicate, slice_index, Result, Ok, Err}
+use Rattle.std.proofs.Common.{◌≡◌, ℕ, Bool, true, false, refl, [], None}
+use Rattle.std.specs.Prelude.{◌+◌, ◌*◌, List, ◌∷◌, replicate, slice_index}
 use Rattle.mdl_state.specs.declared.Activity.TheVariants as activity
-use Rattle.mdl_cpu.specs.declared.Outcome.TheVariants as way
 use Rattle.mdl_cpu.specs.declared.Reason.TheVariants as reason
 use Rattle.mdl_cpu.specs.declared.Switched.TheVariants as switched
 
