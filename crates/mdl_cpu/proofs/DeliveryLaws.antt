@@ -161,7 +161,7 @@ module _ (pick : Pick) (policy : Policy) (meets : Meets pick policy) where
   once_follows cause r m = ext_follows cause.ext m (tried (by_pick pick) 0 (gate_plan cause r) m) (λ n. tried (by_list policy) 0 (gate_plan cause r) n)
       (tried_follows pick (by_list policy) (page_follows pick policy meets) 0 (gate_plan cause r) m)
 
-  followed_follows : (o : Option Fault) (r : Regs) (m : Mem) (x y : Cause → Regs → Mem → Outcome Arrival × Mem)
+  pub followed_follows : (o : Option Fault) (r : Regs) (m : Mem) (x y : Cause → Regs → Mem → Outcome Arrival × Mem)
       → ((c : Cause) (q : Regs) (k : Mem) → Follows k (x c q k) (λ n. y c q n)) → Follows m (followed_by o r m x) (λ n. followed_by o r n y)
   followed_follows None r m x y e = stays_follow m (Passed (shut_down r))
   followed_follows (Some fault) r m x y e = e (fault_cause r fault) (with_address r fault) m

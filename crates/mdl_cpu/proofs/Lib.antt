@@ -4,5 +4,6 @@ pub mod ModeLaws
 pub mod WorkedRows
 pub mod WayLaws
 pub mod SwitchLaws
+pub mod ChoiceLaws
 pub mod ServingLaws
 pub mod DeliveryLaws

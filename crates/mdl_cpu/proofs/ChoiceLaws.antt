@@ -1,0 +1,146 @@
+-- What a rule delivers, in every mode, is delivered by a list of items.
+use Rattle.std.proofs.Common.{◌≡◌, ℕ, zero, suc, Bool, true, false, refl, ap, sym, ◌∙◌, [], ◌∷◌}
+use Rattle.std.specs.Prelude.{List, ◌++◌, ◌==◌, if◌then◌else◌}
+use Rattle.std.specs.FinMap.{empty}
+use Rattle.mdl_state.specs.declared.Regs.{Regs}
+use Rattle.mdl_state.specs.declared.Fault.{Fault}
+use Rattle.mdl_state.specs.State.{Mem, Item}
+use Rattle.mdl_state.specs.Serving.{Pick, Policy, Outcome, Passed, Failed, NoStep, by_pick, by_list, with_items}
+use Rattle.mdl_state.specs.Accesses.{committed, discarded}
+use Rattle.mdl_state.specs.Attempt.{Plan, tried, finished}
+use Rattle.mdl_state.specs.Choices.{Meets, Follows, walks_after, walks_after-append, page_follows, tried_follows, stays_follow}
+use Rattle.std.proofs.Common.{append_assoc}
+use Rattle.mdl_cpu.specs.declared.Cause.{Cause}
+use Rattle.mdl_cpu.specs.declared.Outcome as way
+use Rattle.mdl_cpu.specs.declared.Outcome.TheVariants as outcome
+use Rattle.mdl_cpu.specs.declared.Switched.{Switched}
+use Rattle.mdl_cpu.specs.declared.Switched.TheVariants as switched
+use Rattle.mdl_cpu.specs.DoubleFault.{combine}
+use Rattle.mdl_cpu.specs.Transfers.{Transfer}
+use Rattle.mdl_cpu.specs.Gates.{gate_way_plan, with_ext}
+use Rattle.mdl_cpu.specs.Delivery.{Arrival, followed_by}
+use Rattle.mdl_cpu.specs.OldTask.{Request, Task, old_plan}
+use Rattle.mdl_cpu.specs.NewTask.{Stage, begun, by_directory, new_stages}
+use Rattle.mdl_cpu.specs.Switch.{Left, passing, staged, told, new_part, behind_old, switch}
+use Rattle.mdl_cpu.specs.TaskDeliveries.{task_request, entered, by_way, behind_gate, delivered_by_gate, settled, deliveries_by_gate, deliver_by_gate}
+use Rattle.mdl_cpu.proofs.DeliveryLaws.{followed_follows}
+
+-- a part behind a part, whatever the first one comes to
+then_follows : {A B : Type 0} (old : Mem) (w : A × Mem) (f : Mem → A × Mem) (k l : A → Mem → B × Mem) → Follows old w f → ((x : A) (n : Mem) → Follows n (k x n) (l x))
+    → Follows old (k w.0 w.1) (λ n. l (f n).0 (f n).1)
+then_follows old (x, m) f k l p q = let t = q x m in record {
+  items = p.items ++ t.items;
+  same = λ rest. ap (λ is. l (f (with_items old is)).0 (f (with_items old is)).1) (append_assoc p.items t.items rest) ∙ ap (λ w. l w.0 w.1) (p.same (t.items ++ rest)) ∙ t.same rest;
+  walks = t.walks ∙ ap (walks_after t.items) p.walks ∙ sym (walks_after-append p.items t.items old.walks);
+}
+
+finished_follows : {A : Type 0} (m : Mem) (w : Outcome A × Mem) (f : Mem → Outcome A × Mem) → Follows m w f → Follows m (finished w) (λ n. finished (f n))
+unfolding committed discarded
+finished_follows m (Passed x, n) f p = record { items = p.items; same = λ rest. ap (λ v. finished v) (p.same rest); walks = p.walks }
+finished_follows m (Failed fault, n) f p = record { items = p.items; same = λ rest. ap (λ v. finished v) (p.same rest); walks = p.walks }
+finished_follows m (NoStep, n) f p = record { items = p.items; same = λ rest. ap (λ v. finished v) (p.same rest); walks = p.walks }
+
+ext_follows : {A : Type 0} (ext : Bool) (m : Mem) (w : Outcome A × Mem) (f : Mem → Outcome A × Mem) → Follows m w f → Follows m (with_ext ext w) (λ n. with_ext ext (f n))
+ext_follows ext m (Passed x, n) f p = record { items = p.items; same = λ rest. ap (λ v. with_ext ext v) (p.same rest); walks = p.walks }
+ext_follows ext m (Failed fault, n) f p = record { items = p.items; same = λ rest. ap (λ v. with_ext ext v) (p.same rest); walks = p.walks }
+ext_follows ext m (NoStep, n) f p = record { items = p.items; same = λ rest. ap (λ v. with_ext ext v) (p.same rest); walks = p.walks }
+
+directory_if : (b : Bool) (m : Mem) (cr3 : ℕ) (rest : List Item)
+    → (if b then with_items m rest else record (with_items m rest) { cr3 = cr3; cache = empty }) ≡ with_items (if b then m else record m { cr3 = cr3; cache = empty }) rest
+directory_if true m cr3 rest = refl
+directory_if false m cr3 rest = refl
+
+directory_walks : (b : Bool) (m : Mem) (cr3 : ℕ) → (if b then m else record m { cr3 = cr3; cache = empty }).walks ≡ m.walks
+directory_walks true m cr3 = refl
+directory_walks false m cr3 = refl
+
+directory_follows : (m : Mem) (cr3 : ℕ) → Follows {R = Unit {0}} m (tt, by_directory cr3 m) (λ n. (tt, by_directory cr3 n))
+directory_follows m cr3 = record { items = []; same = λ rest. ap (λ k. (tt, k)) (directory_if (m.cr3 == cr3) m cr3 rest); walks = directory_walks (m.cr3 == cr3) m cr3 }
+
+module _ (pick : Pick) (policy : Policy) (meets : Meets pick policy) where
+  plan_follows : {A : Type 0} (plan : Plan A) (m : Mem) → Follows m (tried (by_pick pick) 0 plan m) (λ n. tried (by_list policy) 0 plan n)
+  plan_follows plan m = tried_follows pick (by_list policy) (page_follows pick policy meets) 0 plan m
+
+  passing_follows : (r : Regs) (k l : Regs → Mem → Left (Unit {0}) × Mem) → ((s : Regs) (n : Mem) → Follows n (k s n) (l s)) → (o : Outcome Regs) (n : Mem)
+      → Follows n (passing (o, n) r k) (λ v. passing (o, v) r l)
+  passing_follows r k l h (Passed s) n = h s n
+  passing_follows r k l h (Failed fault) n = stays_follow n _
+  passing_follows r k l h NoStep n = stays_follow n _
+
+  staged_follows : (stages : List Stage) (r : Regs) (m : Mem) → Follows m (staged (by_pick pick) stages r m) (λ n. staged (by_list policy) stages r n)
+  staged_follows [] r m = stays_follow m _
+  staged_follows (stage ∷ stages) r m = then_follows m (tried (by_pick pick) 0 (stage r) m) (λ n. tried (by_list policy) 0 (stage r) n)
+      (λ o n. passing (o, n) r (λ s v. staged (by_pick pick) stages s v)) (λ o n. passing (o, n) r (λ s v. staged (by_list policy) stages s v))
+      (plan_follows (stage r) m) (passing_follows r _ _ (λ s n. staged_follows stages s n))
+
+  told_follows : (q : Request) (t : Task) (o : Outcome (Unit {0})) (r : Regs) (m : Mem) → Follows m (told q t o r m) (λ n. told q t o r n)
+  unfolding committed discarded
+  told_follows q t (Passed _) r m = record { items = []; same = λ rest. refl; walks = refl }
+  told_follows q t (Failed fault) r m = record { items = []; same = λ rest. refl; walks = refl }
+  told_follows q t NoStep r m = stays_follow m _
+
+  new_follows : (r : Regs) (q : Request) (t : Task) (m : Mem) → Follows m (new_part (by_pick pick) r q t m) (λ n. new_part (by_list policy) r q t n)
+  unfolding new_part
+  new_follows r q t m = then_follows m (staged (by_pick pick) (new_stages q t) (begun r q t) (by_directory (begun r q t).cr3 m))
+      (λ n. staged (by_list policy) (new_stages q t) (begun r q t) (by_directory (begun r q t).cr3 n))
+      (λ x n. told q t x.outcome x.regs n) (λ x n. told q t x.outcome x.regs n)
+      (then_follows m (tt, by_directory (begun r q t).cr3 m) (λ n. (tt, by_directory (begun r q t).cr3 n))
+      (λ _ n. staged (by_pick pick) (new_stages q t) (begun r q t) n) (λ _ n. staged (by_list policy) (new_stages q t) (begun r q t) n)
+      (directory_follows m (begun r q t).cr3) (λ _ n. staged_follows (new_stages q t) (begun r q t) n))
+      (λ x n. told_follows q t x.outcome x.regs n)
+
+  old_follows : (r : Regs) (q : Request) (k l : Task → Mem → Left Switched × Mem) → ((t : Task) (n : Mem) → Follows n (k t n) (l t)) → (o : Outcome Task) (n : Mem)
+      → Follows n (behind_old r q (o, n) k) (λ v. behind_old r q (o, v) l)
+  old_follows r q k l h (Passed t) n = h t n
+  old_follows r q k l h (Failed fault) n = stays_follow n _
+  old_follows r q k l h NoStep n = stays_follow n _
+
+  switch_follows : (r : Regs) (q : Request) (m : Mem) → Follows m (switch (by_pick pick) r q m) (λ n. switch (by_list policy) r q n)
+  unfolding switch
+  switch_follows r q m = then_follows m (finished (tried (by_pick pick) 0 (old_plan r q) m)) (λ n. finished (tried (by_list policy) 0 (old_plan r q) n))
+      (λ o n. behind_old r q (o, n) (λ t v. new_part (by_pick pick) r q t v)) (λ o n. behind_old r q (o, n) (λ t v. new_part (by_list policy) r q t v))
+      (finished_follows m _ (λ n. tried (by_list policy) 0 (old_plan r q) n) (plan_follows (old_plan r q) m)) (old_follows r q _ _ (λ t n. new_follows r q t n))
+
+  entered_follows : (o : Outcome Switched) (r : Regs) (m : Mem) → Follows m (entered o r m) (λ n. entered o r n)
+  entered_follows (Passed (switched.Done trap)) r m = stays_follow m _
+  entered_follows (Passed (switched.OldFault fault)) r m = stays_follow m _
+  entered_follows (Passed (switched.NewFault fault)) r m = stays_follow m _
+  entered_follows (Failed fault) r m = stays_follow m _
+  entered_follows NoStep r m = stays_follow m _
+
+  way_follows : (o : way.Outcome) (cause : Cause) (r : Regs) (m : Mem) → Follows m (by_way o (by_pick pick) cause r m) (λ n. by_way o (by_list policy) cause r n)
+  way_follows outcome.Done cause r m = stays_follow m _
+  way_follows (outcome.Switch sel) cause r m = then_follows m (switch (by_pick pick) r (task_request cause r sel) m) (λ n. switch (by_list policy) r (task_request cause r sel) n)
+      (λ x n. entered x.outcome x.regs n) (λ x n. entered x.outcome x.regs n) (switch_follows r (task_request cause r sel) m) (λ x n. entered_follows x.outcome x.regs n)
+
+  gate_follows : (cause : Cause) (r : Regs) (o : Outcome Transfer) (n : Mem) → Follows n (behind_gate (by_pick pick) cause r (o, n)) (λ v. behind_gate (by_list policy) cause r (o, v))
+  gate_follows cause r (Passed t) n = way_follows t.outcome cause t.regs n
+  gate_follows cause r (Failed fault) n = stays_follow n _
+  gate_follows cause r NoStep n = stays_follow n _
+
+  once_follows : (cause : Cause) (r : Regs) (m : Mem) → Follows m (delivered_by_gate (by_pick pick) cause r m) (λ n. delivered_by_gate (by_list policy) cause r n)
+  unfolding delivered_by_gate
+  once_follows cause r m = then_follows m (finished (with_ext cause.ext (tried (by_pick pick) 0 (gate_way_plan cause r) m)))
+      (λ n. finished (with_ext cause.ext (tried (by_list policy) 0 (gate_way_plan cause r) n)))
+      (λ o n. behind_gate (by_pick pick) cause r (o, n)) (λ o n. behind_gate (by_list policy) cause r (o, n))
+      (finished_follows m _ (λ n. with_ext cause.ext (tried (by_list policy) 0 (gate_way_plan cause r) n))
+      (ext_follows cause.ext m _ (λ n. tried (by_list policy) 0 (gate_way_plan cause r) n) (plan_follows (gate_way_plan cause r) m))) (gate_follows cause r)
+
+  settled_follows : (x y : Fault → Regs → Mem → Outcome Arrival × Mem) → ((fault : Fault) (r : Regs) (n : Mem) → Follows n (x fault r n) (y fault r)) → (o : Outcome Bool) (r : Regs) (n : Mem)
+      → Follows n (settled o r n x) (λ v. settled o r v y)
+  settled_follows x y h (Passed trap) r n = stays_follow n _
+  settled_follows x y h (Failed fault) r n = h fault r n
+  settled_follows x y h NoStep r n = stays_follow n _
+
+  chain_follows : (n : ℕ) (cause : Cause) (r : Regs) (m : Mem) → Follows m (deliveries_by_gate n (by_pick pick) cause r m) (λ k. deliveries_by_gate n (by_list policy) cause r k)
+  unfolding deliveries_by_gate
+  chain_follows zero cause r m = stays_follow m NoStep
+  chain_follows (suc n) cause r m = then_follows m (delivered_by_gate (by_pick pick) cause r m) (λ k. delivered_by_gate (by_list policy) cause r k)
+      (λ x k. settled x.outcome x.regs k (λ fault q j. followed_by (combine cause fault) q j (deliveries_by_gate n (by_pick pick))))
+      (λ x k. settled x.outcome x.regs k (λ fault q j. followed_by (combine cause fault) q j (deliveries_by_gate n (by_list policy))))
+      (once_follows cause r m) (λ x k. settled_follows _ _ (λ fault q j. followed_follows pick policy meets (combine cause fault) q j _ _ (λ c s i. chain_follows n c s i)) x.outcome x.regs k)
+
+  -- CHOICES: what a rule delivers in any mode is delivered by a list of items, and the walks are counted.
+  pub deliver_by_gate_follows : (cause : Cause) (r : Regs) (m : Mem) → Follows m (deliver_by_gate (by_pick pick) cause r m) (λ n. deliver_by_gate (by_list policy) cause r n)
+  unfolding deliver_by_gate
+  deliver_by_gate_follows cause r m = chain_follows 4 cause r m
