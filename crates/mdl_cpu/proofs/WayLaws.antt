@@ -10,6 +10,7 @@ use Rattle.mdl_state.specs.Bytes.{bit}
 use Rattle.mdl_state.specs.Attempt.{Plan, checked}
 use Rattle.mdl_cpu.specs.declared.Cause.{Cause}
 use Rattle.mdl_cpu.specs.declared.Desc.{Desc}
+use Rattle.mdl_cpu.specs.declared.StackSegment.{StackSegment}
 use Rattle.mdl_cpu.specs.Segments.{is_virtual}
 use Rattle.mdl_cpu.specs.Faults.{Row, row, first_of, fault_at}
 use Rattle.mdl_cpu.specs.Access.{legal, store_to}
@@ -19,7 +20,7 @@ use Rattle.mdl_cpu.specs.Loads.{known_plan, stack_rows, stack_plan}
 use Rattle.mdl_cpu.specs.DoubleFault.{class_of_fault}
 use Rattle.mdl_cpu.specs.Deliveries.{IsSerious, Serious}
 use Rattle.mdl_cpu.specs.TaskSegments.{has_wide_tss, level_rows, level_stack_plan}
-use Rattle.mdl_cpu.specs.InnerStacks.{InnerStack, inner_stack_plan, push_stack_plan}
+use Rattle.mdl_cpu.specs.InnerStacks.{inner_stack_plan, push_stack_plan}
 use Rattle.mdl_cpu.specs.GateDescriptors.{is_task_gate, gate_selector, target_rows, target_plan}
 use Rattle.mdl_cpu.specs.Transfers.{enter_plan}
 use Rattle.mdl_cpu.specs.InterruptGates.{table_rows, vector_rows, vector_plan, handler_rows, without_virtual, push_segments_plan, inner_frame_plan, begin_frame_plan, push_code_plan, end_frame_plan, keep_stack_plan, handler_plan, through_code_plan, protected_gate_plan}
@@ -119,7 +120,7 @@ enter_any : (r : Regs) (sel : ℕ) (d : Desc) (eip : ℕ) → Ways Any (enter_pl
 unfolding enter_plan
 enter_any r sel d eip = rows_way (row (nat_lt d.limit eip) (record { vector = 13; code = 0; addr = 0 }) ∷ []) _ (tt, tt) (then_way (known_any r _ sel d) (λ _ _. passes tt))
 
-keep_any : (r : Regs) (stack : Option InnerStack) → Ways Any (keep_stack_plan r stack)
+keep_any : (r : Regs) (stack : Option StackSegment) → Ways Any (keep_stack_plan r stack)
 unfolding keep_stack_plan
 keep_any r None = passes tt
 keep_any r (Some s) = known_any r Ss s.selector s.desc

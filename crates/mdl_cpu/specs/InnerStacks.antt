@@ -8,6 +8,7 @@ use Rattle.mdl_state.specs.Bytes.{bytes_of}
 use Rattle.mdl_state.specs.Registers.{reg_of, seg_of, with_seg}
 use Rattle.mdl_state.specs.Attempt.{Plan, Done, then_plan}
 use Rattle.mdl_cpu.specs.declared.Desc.{Desc}
+use Rattle.mdl_cpu.specs.declared.StackSegment.{StackSegment}
 use Rattle.mdl_cpu.specs.Access.{load_from}
 use Rattle.mdl_cpu.specs.Stack.{above_top, push_plan}
 use Rattle.mdl_cpu.specs.Loads.{hidden_of, stack_plan}
@@ -16,8 +17,7 @@ use Rattle.mdl_cpu.specs.TaskSegments.{LevelStack, level_stack_plan}
 -- the registers on the stack of an inner level, and the segment of that stack, whose accessed bit is not set yet
 pub record InnerStack : Type 0 where
   pub regs : Regs
-  pub selector : ℕ
-  pub desc : Desc
+  pub segment : StackSegment
 
 -- the registers at a level, with its stack
 unfoldable pub on_stack : Regs → ℕ → LevelStack → Desc → Regs
@@ -28,7 +28,7 @@ unfoldable pub inner_stack_plan : Regs → ℕ → Plan InnerStack
 inner_stack_plan r level =
     then_plan (level_stack_plan r level) (λ s.
     then_plan (stack_plan 10 level r s.selector) (λ d.
-    Done (record { regs = on_stack r level s d; selector = s.selector; desc = d })))
+    Done (record { regs = on_stack r level s d; segment = record { selector = s.selector; desc = d } })))
 
 -- SS and ESP of the old stack pushed on the new one
 unfoldable pub push_stack_plan : Regs → Regs → Size → Plan Regs

@@ -13,6 +13,7 @@ use Rattle.mdl_state.specs.Attempt.{Plan, Done, then_plan, checked}
 use Rattle.mdl_num.specs.Flags.{with_bit}
 use Rattle.mdl_cpu.specs.declared.Desc.{Desc}
 use Rattle.mdl_cpu.specs.declared.Cause.{Cause}
+use Rattle.mdl_cpu.specs.declared.StackSegment.{StackSegment}
 use Rattle.mdl_cpu.specs.Segments.{is_virtual}
 use Rattle.mdl_cpu.specs.Faults.{Row, row, first_of, fault_at, coded_fault}
 use Rattle.mdl_cpu.specs.SystemFlags.{TF, IF, NT, RF, VM}
@@ -21,7 +22,7 @@ use Rattle.mdl_cpu.specs.Loads.{null_segment, known_plan}
 use Rattle.mdl_cpu.specs.Stack.{push_plan}
 use Rattle.mdl_cpu.specs.Causes.{saved_eip}
 use Rattle.mdl_cpu.specs.GateDescriptors.{is_task_gate, is_interrupt_gate, is_trap_gate, gate_selector, is_wide_gate, gate_size, gate_offset, target_rows, target_plan, level_of}
-use Rattle.mdl_cpu.specs.InnerStacks.{InnerStack, inner_stack_plan, push_stack_plan}
+use Rattle.mdl_cpu.specs.InnerStacks.{inner_stack_plan, push_stack_plan}
 use Rattle.mdl_cpu.specs.Transfers.{Transfer, made, switch_to, enter_plan}
 
 -- ---- the gate
@@ -68,7 +69,7 @@ handler_rows r g d =
 -- what a handler finds on its stack, and the segment of that stack where it is a new one
 pub record Frame : Type 0 where
   pub regs : Regs
-  pub stack : Option InnerStack
+  pub stack : Option StackSegment
 
 -- the registers as protected mode has them
 abbrev pub without_virtual : Regs → Regs
@@ -88,7 +89,7 @@ inner_frame_plan r level size =
     then_plan (inner_stack_plan (without_virtual r) level) (λ s.
     then_plan (if is_virtual r then push_segments_plan r s.regs else Done s.regs) (λ a.
     then_plan (push_stack_plan r a size) (λ b.
-    Done (record { regs = b; stack = Some s }))))
+    Done (record { regs = b; stack = Some s.segment }))))
 
 -- on the stack of the level at which the handler runs
 unfoldable pub begin_frame_plan : Regs → ℕ → Size → Plan Frame
@@ -114,7 +115,7 @@ end_frame_plan old r cause size =
 -- ---- the handler
 
 -- a new stack is accessed
-unfoldable pub keep_stack_plan : Regs → Option InnerStack → Plan Regs
+unfoldable pub keep_stack_plan : Regs → Option StackSegment → Plan Regs
 keep_stack_plan r None = Done r
 keep_stack_plan r (Some s) = known_plan r Ss s.selector s.desc
 

@@ -123,7 +123,7 @@ inner_call_plan r g d back =
     then_plan (parameters_plan (gate_count g) r a (gate_size g)) (λ b.
     then_plan (push_place_plan b (gate_size g) back) (λ c.
     then_plan (enter_plan c (with_rpl (gate_selector g) (dpl d)) d (gate_offset g)) (λ e.
-    known_plan e Ss s.selector s.desc)))))
+    known_plan e Ss s.segment.selector s.segment.desc)))))
 
 -- CALL by a call gate
 unfoldable pub call_gate_plan : Regs → ℕ → Desc → ℕ → Plan Transfer

@@ -27,6 +27,13 @@ pub struct Desc {
     pub rights: u16,
 }
 
+/// A stack segment whose descriptor was read and tested, and is not yet marked as accessed.
+#[derive(Clone, Copy, Debug, PartialEq, Eq)]
+pub struct StackSegment {
+    pub selector: u16,
+    pub desc: Desc,
+}
+
 /// What a far transfer comes to.
 #[derive(Clone, Copy, Debug, PartialEq, Eq)]
 pub enum Outcome {
