@@ -11,7 +11,7 @@ use Rattle.mdl_cpu.specs.InnerStacks.{on_stack, inner_stack_plan, push_stack_pla
 use Rattle.mdl_cpu.specs.InterruptGates.{protected_gate_plan, vector_plan, through_code_plan, handler_plan, begin_frame_plan, inner_frame_plan, push_segments_plan, end_frame_plan, push_code_plan, keep_stack_plan, without_segments, at_gate}
 use Rattle.mdl_cpu.specs.Loads.{virtual_segment, known_plan, stack_plan, data_plan}
 use Rattle.mdl_cpu.specs.NewTask.{begun, ldt_stage, virtual_stage, code_stage, stack_stage, limit_stage, code_word_stage}
-use Rattle.mdl_cpu.specs.OldTask.{Request, old_plan}
+use Rattle.mdl_cpu.specs.OldTask.{old_plan}
 use Rattle.mdl_cpu.specs.Returns.{protected_return_plan, protected_interrupt_return_plan, return_to_plan, same_return_plan, outer_return_plan, lowered, virtual_segments, return_to_virtual_plan, popped_return_plan}
 use Rattle.mdl_cpu.specs.Stack.{push_plan, pop_plan}
 use Rattle.mdl_cpu.specs.Switch.{Left, switch, new_part}
@@ -21,6 +21,7 @@ use Rattle.mdl_cpu.specs.Tasks.{reads_plan, writes_plan, read_image_plan, save_i
 use Rattle.mdl_cpu.specs.Transfers.{Transfer, protected_call_plan, protected_jump_plan, enter_plan, call_gate_plan, inner_call_plan, same_call_plan, jump_code_plan, call_code_plan, push_place_plan, task_gate_plan, jump_gate_plan, land_plan, virtual_code_plan}
 use Rattle.mdl_cpu.specs.Virtual.{port_plan}
 use Rattle.mdl_cpu.specs.declared.Cause.{Cause}
+use Rattle.mdl_cpu.specs.declared.Request.{Request}
 use Rattle.mdl_cpu.specs.declared.Switched.{Switched}
 use Rattle.mdl_num.specs.Flags.{with_bit}
 use Rattle.mdl_state.specs.Accesses.{got, translated, seen_byte, got_from, held_bytes, read_at, written_at, committed, discarded}

@@ -1,32 +1,19 @@
 -- The old part of a task switch: what is tested, and what is saved. Manual, chapter 7.
 -- Own: The order of a task switch. Own: What a switch leaves of the old task.
-use Rattle.std.specs.Prelude.{ℕ, ◌&&◌, not, nat_lt, Bool, true, false, if◌then◌else◌, List, [], ◌∷◌, Option}
+use Rattle.std.specs.Prelude.{ℕ, ◌&&◌, not, nat_lt, Bool, true, false, if◌then◌else◌, List, [], ◌∷◌}
 use Rattle.mdl_state.specs.declared.Regs.{Regs}
 use Rattle.mdl_state.specs.Attempt.{Plan, Done, then_plan, checked}
 use Rattle.mdl_num.specs.Flags.{with_bit}
 use Rattle.mdl_cpu.specs.declared.Desc.{Desc}
 use Rattle.mdl_cpu.specs.declared.Reason.{Reason}
 use Rattle.mdl_cpu.specs.declared.Reason.TheVariants.{Jump, Call, Return}
+use Rattle.mdl_cpu.specs.declared.Request.{Request}
 use Rattle.mdl_cpu.specs.Faults.{Row, row, first_of, fault_at}
 use Rattle.mdl_cpu.specs.SystemFlags.{NT, RF}
 use Rattle.mdl_cpu.specs.Descriptors.{is_null, in_ldt, is_present, is_available_tss, is_beyond, descriptor_plan}
 use Rattle.mdl_cpu.specs.Loads.{not_present}
 use Rattle.mdl_cpu.specs.TaskSegments.{is_wide_tss, has_wide_tss, is_busy_tss}
 use Rattle.mdl_cpu.specs.Tasks.{read_image_plan, save_image_plan, image_of, busy_bits_plan, link_plan}
-
--- what a switch is asked for
-pub record Request : Type 0 where
-  -- the selector of the TSS, and why it is switched to
-  pub selector : ℕ
-  pub reason : Reason
-  -- the instruction named the TSS itself, and no task gate
-  pub direct : Bool
-  -- the EIP that is saved
-  pub back : ℕ
-  -- the error code of a delivery, EXT of its faults, and whether it is that of a fault
-  pub code : Option ℕ
-  pub ext : Bool
-  pub fault : Bool
 
 -- ---- the tests
 

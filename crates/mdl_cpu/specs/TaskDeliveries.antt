@@ -10,13 +10,13 @@ use Rattle.mdl_cpu.specs.declared.Cause.{Cause}
 use Rattle.mdl_cpu.specs.declared.Outcome.{Outcome}
 use Rattle.mdl_cpu.specs.declared.Outcome.TheVariants as outcome
 use Rattle.mdl_cpu.specs.declared.Reason.TheVariants.{Interrupt}
+use Rattle.mdl_cpu.specs.declared.Request.{Request}
 use Rattle.mdl_cpu.specs.declared.Switched.{Switched}
 use Rattle.mdl_cpu.specs.declared.Switched.TheVariants as switched
 use Rattle.mdl_cpu.specs.Causes.{saved_eip}
 use Rattle.mdl_cpu.specs.Transfers.{Transfer}
 use Rattle.mdl_cpu.specs.Gates.{gate_way_plan, with_ext}
 use Rattle.mdl_cpu.specs.DoubleFault.{combine}
-use Rattle.mdl_cpu.specs.OldTask.{Request}
 use Rattle.mdl_cpu.specs.Switch.{Left, left, switch}
 use Rattle.mdl_cpu.specs.Delivery.{Arrival, followed_by}
 

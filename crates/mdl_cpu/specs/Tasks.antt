@@ -9,7 +9,7 @@ use Rattle.mdl_state.specs.declared.Who.TheVariants.{Tables}
 use Rattle.mdl_state.specs.declared.Access.TheVariants.{Write}
 use Rattle.mdl_state.specs.declared.Regs.{Regs}
 use Rattle.mdl_state.specs.Bytes.{bound_of}
-use Rattle.mdl_state.specs.Registers.{seg_of}
+use Rattle.mdl_state.specs.Registers.{seg_number, seg_of}
 use Rattle.mdl_state.specs.Attempt.{Plan, Done, Load, Store, Translate, Get, Hold, then_plan}
 use Rattle.mdl_num.specs.Flags.{with_bit}
 use Rattle.mdl_cpu.specs.declared.Desc.{Desc}
@@ -34,17 +34,12 @@ image_flags image = slice_index image 2
 abbrev pub image_reg : List ℕ → ℕ → ℕ
 image_reg image n = slice_index image (3 + n)
 
--- the selector of a segment register
+-- the selector of a segment register, a word
 abbrev pub image_selector : List ℕ → Seg → ℕ
-image_selector image Es = slice_index image 11
-image_selector image Cs = slice_index image 12
-image_selector image Ss = slice_index image 13
-image_selector image Ds = slice_index image 14
-image_selector image Fs = slice_index image 15
-image_selector image Gs = slice_index image 16
+image_selector image seg = slice_index image (11 + seg_number seg) % 2 ^ 16
 
 abbrev pub image_ldt : List ℕ → ℕ
-image_ldt image = slice_index image 17
+image_ldt image = slice_index image 17 % 2 ^ 16
 
 -- the word with T in bit 0
 abbrev pub image_trap : List ℕ → ℕ

@@ -77,6 +77,24 @@ pub enum Reason {
     Return,
 }
 
+/// What a task switch is asked for.
+#[derive(Clone, Copy, Debug, PartialEq, Eq)]
+pub struct Request {
+    /// The selector of the TSS.
+    pub selector: u16,
+    pub reason: Reason,
+    /// The instruction named the TSS itself, and no task gate.
+    pub direct: bool,
+    /// The EIP that is saved.
+    pub back: u32,
+    /// The error code of a delivery.
+    pub code: Option<u16>,
+    /// The bit EXT of error codes on the way.
+    pub ext: bool,
+    /// A fault is delivered, whose saved EFLAGS has RF set.
+    pub fault: bool,
+}
+
 /// What a task switch comes to.
 #[derive(Clone, Copy, Debug, PartialEq, Eq)]
 pub enum Switched {
