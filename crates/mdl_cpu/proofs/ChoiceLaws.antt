@@ -20,7 +20,8 @@ use Rattle.mdl_cpu.specs.Transfers.{Transfer}
 use Rattle.mdl_cpu.specs.Gates.{gate_way_plan, with_ext}
 use Rattle.mdl_cpu.specs.Delivery.{Arrival, followed_by}
 use Rattle.mdl_cpu.specs.declared.Request.{Request}
-use Rattle.mdl_cpu.specs.OldTask.{Task, old_plan}
+use Rattle.mdl_cpu.specs.declared.Task.{Task}
+use Rattle.mdl_cpu.specs.OldTask.{old_plan}
 use Rattle.mdl_cpu.specs.NewTask.{Stage, begun, by_directory, new_stages}
 use Rattle.mdl_cpu.specs.Switch.{Left, passing, staged, told, new_part, behind_old, switch}
 use Rattle.mdl_cpu.specs.TaskDeliveries.{task_request, entered, by_way, behind_gate, delivered_by_gate, settled, deliveries_by_gate, deliver_by_gate}

@@ -16,6 +16,7 @@ use Rattle.mdl_cpu.specs.declared.Desc.{Desc}
 use Rattle.mdl_cpu.specs.declared.Reason.{Reason}
 use Rattle.mdl_cpu.specs.declared.Reason.TheVariants.{Jump, Call, Interrupt, Return}
 use Rattle.mdl_cpu.specs.declared.Request.{Request}
+use Rattle.mdl_cpu.specs.declared.Task.{Task}
 use Rattle.mdl_cpu.specs.Faults.{row, fault_at, general_protection}
 use Rattle.mdl_cpu.specs.Descriptors.{is_null, in_ldt, mark_plan}
 use Rattle.mdl_cpu.specs.Loads.{data_rows, data_plan}
@@ -35,7 +36,7 @@ use Rattle.mdl_cpu.proofs.ServingLaws.{tried_serious}
 use Rattle.mdl_cpu.proofs.DeliveryLaws.{extended_serious, rank_of, followed_same, combine_falls, more_below}
 use Rattle.mdl_cpu.specs.Tasks.{no_image, reads_plan, writes_plan, read_image_plan, save_image_plan, free_plan, busy_bits_plan, is_linked, link_plan}
 use Rattle.mdl_cpu.specs.TaskSegments.{is_wide_tss, has_wide_tss}
-use Rattle.mdl_cpu.specs.OldTask.{Task, wrong_task, selector_rows, task_rows, old_plan}
+use Rattle.mdl_cpu.specs.OldTask.{wrong_task, selector_rows, task_rows, old_plan}
 use Rattle.mdl_cpu.specs.NewTask.{Stage, begun, by_directory, is_virtual_image, new_ldt_rows, ldt_stage, virtual_stage, new_code_rows, code_stage, stack_stage, data_stage, limit_stage, code_word_stage, segment_stages, new_stages}
 use Rattle.mdl_cpu.proofs.GateLaws.{Ways, passes, then_way, gate_ends}
 use Rattle.mdl_cpu.proofs.WayLaws.{Any, rows_way, either_way, descriptor_any, known_any, stack_any, code_any, protected_way}

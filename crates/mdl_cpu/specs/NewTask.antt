@@ -15,6 +15,7 @@ use Rattle.mdl_num.specs.Flags.{with_bit}
 use Rattle.mdl_cpu.specs.declared.Desc.{Desc}
 use Rattle.mdl_cpu.specs.declared.Reason.{Reason}
 use Rattle.mdl_cpu.specs.declared.Request.{Request}
+use Rattle.mdl_cpu.specs.declared.Task.{Task}
 use Rattle.mdl_cpu.specs.Faults.{Row, row, first_of, fault_at, general_protection}
 use Rattle.mdl_cpu.specs.SystemFlags.{IF, IOPL, NT, RF, VM, common_flags, with_flags_from}
 use Rattle.mdl_cpu.specs.Descriptors.{is_null, rpl, in_ldt, dpl, is_present, is_code, is_conforming, is_ldt, descriptor_plan}
@@ -23,7 +24,6 @@ use Rattle.mdl_cpu.specs.Returns.{virtual_segments}
 use Rattle.mdl_cpu.specs.InterruptGates.{push_code_plan}
 use Rattle.mdl_cpu.specs.TaskSegments.{is_wide_tss}
 use Rattle.mdl_cpu.specs.Tasks.{image_cr3, image_eip, image_flags, image_reg, image_selector, image_ldt, is_linked}
-use Rattle.mdl_cpu.specs.OldTask.{Task}
 
 -- ---- what it begins with
 

@@ -8,6 +8,7 @@ use Rattle.mdl_cpu.specs.declared.Desc.{Desc}
 use Rattle.mdl_cpu.specs.declared.Reason.{Reason}
 use Rattle.mdl_cpu.specs.declared.Reason.TheVariants.{Jump, Call, Return}
 use Rattle.mdl_cpu.specs.declared.Request.{Request}
+use Rattle.mdl_cpu.specs.declared.Task.{Task}
 use Rattle.mdl_cpu.specs.Faults.{Row, row, first_of, fault_at}
 use Rattle.mdl_cpu.specs.SystemFlags.{NT, RF}
 use Rattle.mdl_cpu.specs.Descriptors.{is_null, in_ldt, is_present, is_available_tss, is_beyond, descriptor_plan}
@@ -63,11 +64,6 @@ abbrev pub old_flags : Request → ℕ → ℕ
 old_flags q flags =
     let left = if is_return q.reason then with_bit flags NT 0 else flags in
     if q.fault then with_bit left RF 1 else left
-
--- what the old part hands to the new one: the new TSS, and the image in it
-pub record Task : Type 0 where
-  pub desc : Desc
-  pub image : List ℕ
 
 -- The new image is read; then the old one, the busy bits and the link are written.
 unfoldable pub old_plan : Regs → Request → Plan Task

@@ -8,11 +8,12 @@ use Rattle.mdl_state.specs.Serving.{Serve, Outcome, Passed, Failed, NoStep}
 use Rattle.mdl_state.specs.Accesses.{committed, discarded}
 use Rattle.mdl_state.specs.Attempt.{tried, attempt}
 use Rattle.mdl_cpu.specs.declared.Request.{Request}
+use Rattle.mdl_cpu.specs.declared.Task.{Task}
 use Rattle.mdl_cpu.specs.declared.Switched.{Switched}
 use Rattle.mdl_cpu.specs.declared.Switched.TheVariants as switched
 use Rattle.mdl_cpu.specs.Faults.{extended}
 use Rattle.mdl_cpu.specs.Tasks.{image_trap}
-use Rattle.mdl_cpu.specs.OldTask.{Task, old_plan}
+use Rattle.mdl_cpu.specs.OldTask.{old_plan}
 use Rattle.mdl_cpu.specs.NewTask.{Stage, begun, by_directory, new_stages}
 
 -- what a part comes to, and the registers that it leaves, also by a fault

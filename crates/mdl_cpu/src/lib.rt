@@ -95,6 +95,15 @@ pub struct Request {
     pub fault: bool,
 }
 
+/// What the old task hands to the new one: the descriptor of the new TSS, and the image in it.
+#[derive(Clone, Copy, Debug, PartialEq, Eq)]
+pub struct Task {
+    pub desc: Desc,
+    /// CR3, EIP, EFLAGS, EAX, ECX, EDX, EBX, ESP, EBP, ESI, EDI, ES, CS, SS, DS, FS, GS, LDTR and the
+    /// word with T.
+    pub image: [u32; 19],
+}
+
 /// What a task switch comes to.
 #[derive(Clone, Copy, Debug, PartialEq, Eq)]
 pub enum Switched {
