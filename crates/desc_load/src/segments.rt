@@ -84,22 +84,28 @@ pub fn load_real(regs: &mut Regs, seg: Seg, sel: u16)
     put(regs, seg, hidden);
 }
 
+/// What a register has by a selector in V86.
+pub fn virtual_segment(sel: u16) -> Hidden
+    ensures { result ≡ virtual_segment sel }
+{
+    Hidden {
+        sel,
+        base: paragraph(sel),
+        limit: VIRTUAL_LIMIT,
+        rights: VIRTUAL_RIGHTS,
+    }
+}
+
 /// The load of V86, of any segment register.
 pub fn load_v86(regs: &mut Regs, seg: Seg, sel: u16)
     ensures load { regs.new ≡ with_seg regs.old seg (virtual_segment sel) }
     ensures steady { Steady regs.old regs.new }
 {
-    let hidden = Hidden {
-        sel,
-        base: paragraph(sel),
-        limit: VIRTUAL_LIMIT,
-        rights: VIRTUAL_RIGHTS,
-    };
-    put(regs, seg, hidden);
+    put(regs, seg, virtual_segment(sel));
 }
 
 /// What a register has by a null selector.
-pub(crate) fn null_segment(sel: u16) -> Hidden
+pub fn null_segment(sel: u16) -> Hidden
     ensures { result ≡ null_segment sel }
 {
     Hidden {
@@ -111,7 +117,7 @@ pub(crate) fn null_segment(sel: u16) -> Hidden
 }
 
 /// What a register has by a descriptor.
-pub(crate) fn hidden_of(sel: u16, desc: &Desc) -> Hidden
+pub fn hidden_of(sel: u16, desc: &Desc) -> Hidden
     ensures { result ≡ hidden_of sel desc.now }
 {
     Hidden {
