@@ -17,8 +17,8 @@ pub use descriptors::{
 pub use marks::{set_accessed, set_busy};
 pub use mdl_cpu::Desc;
 pub use segments::{
-    hidden_of, load_data, load_data_or, load_known, load_real, load_segment, load_stack, load_v86,
-    null_segment, stack_descriptor, virtual_segment,
+    has_protection, hidden_of, is_virtual, load_data, load_data_or, load_known, load_real,
+    load_segment, load_stack, load_v86, null_segment, stack_descriptor, virtual_segment,
 };
 pub use selectors::{fault_at, in_ldt, is_null, rpl};
-pub use system::{load_ldt, load_task};
+pub use system::{has_wide_tss, load_ldt, load_task};

@@ -42,13 +42,15 @@ const VIRTUAL_LIMIT: u32 = 0xFFFF;
 /// The rights of each: data of level 3 that was accessed and may be written.
 const VIRTUAL_RIGHTS: u16 = 0xF3;
 
-fn has_protection(regs: &Regs) -> bool
+/// Protected mode, with V86 in it.
+pub fn has_protection(regs: &Regs) -> bool
     ensures { result ≡ has_protection regs.now }
 {
     regs.cr0 / PROTECTION % 2 == 1
 }
 
-fn is_virtual(regs: &Regs) -> bool
+/// V86.
+pub fn is_virtual(regs: &Regs) -> bool
     ensures { result ≡ is_virtual regs.now }
 {
     regs.eflags / VIRTUAL_8086 % 2 == 1

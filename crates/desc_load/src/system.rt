@@ -7,6 +7,7 @@ ghost use Rattle.mdl_state.specs.Attempt.{tried};
 ghost use Rattle.mdl_cpu.specs.Faults.{row, first_of, fault_at};
 ghost use Rattle.mdl_cpu.specs.Descriptors.{in_ldt};
 ghost use Rattle.mdl_cpu.specs.Steady.{Steady};
+ghost use Rattle.mdl_cpu.specs.TaskSegments.{has_wide_tss};
 ghost use Rattle.mdl_cpu.specs.Loads.{ldt_rows, load_ldt_plan, task_rows, load_task_plan, answered};
 
 use crate::descriptors::{fetch_descriptor, is_present, system_type};
@@ -31,6 +32,17 @@ const AVAILABLE_286: u8 = 1;
 
 /// The type of a TSS of the 80386 that is not busy.
 const AVAILABLE_386: u8 = 9;
+
+/// That of one that is in use.
+const BUSY_386: u8 = 11;
+
+/// TR has a TSS of the 80386, whose rights are as they were read: it may have been in use or not.
+pub fn has_wide_tss(regs: &Regs) -> bool
+    ensures { result ≡ has_wide_tss regs.now }
+{
+    let kind = (regs.tr.rights % 0x10) as u8;
+    kind == AVAILABLE_386 || kind == BUSY_386
+}
 
 /// LDTR and TR are loaded by selectors of the global table alone.
 fn table_row(sel: u16) -> Result<(), Fault>

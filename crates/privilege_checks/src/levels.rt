@@ -23,8 +23,8 @@ pub fn arpl(dest: u16, source: u16) -> Option<u16>
     }
 }
 
-/// The level that may still use ports, and set IF.
-fn io_level(regs: &Regs) -> u32
+/// IOPL: the level that may still use ports, and set IF.
+pub fn io_level(regs: &Regs) -> u32
     ensures { result ≡ io_level regs.now }
 {
     regs.eflags / IOPL % 4

@@ -7,5 +7,5 @@
 mod levels;
 mod visibility;
 
-pub use levels::{arpl, iopl_allows};
+pub use levels::{arpl, io_level, iopl_allows};
 pub use visibility::{lar, lsl, verr, verw};
