@@ -45,5 +45,15 @@ steady_sound old new kept sound = record {
   flags = kept.flags sound.flags;
 }
 
+-- A transfer may change the level, and enter or leave V86. It leaves CR0 and CR3, and registers that are sound where they
+-- were so before.
+pub record StaysSound (old new : Regs) : Type 0 where
+  pub cr0 : new.cr0 ≡ old.cr0
+  pub cr3 : new.cr3 ≡ old.cr3
+  pub sound : IsSound old → IsSound new
+
+pub steady_stays_sound : (old new : Regs) → Steady old new → StaysSound old new
+steady_stays_sound old new kept = record { cr0 = kept.cr0; cr3 = kept.cr3; sound = steady_sound old new kept }
+
 pub steady_agrees : (old new : Regs) (m : Mem) → Steady old new → Agree old m → Agree new m
 steady_agrees old new m kept agrees = record { paging = rw (kept.cr0) agrees.paging; cr3 = rw (kept.cr3) agrees.cr3 }

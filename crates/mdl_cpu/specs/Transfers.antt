@@ -1,6 +1,6 @@
 -- Far transfers by JMP and CALL. Manual, chapters 6, 7, 14, 15 and 17, under JMP and CALL.
 -- Own: The order of a far transfer. Own: Accessed bits of a transfer.
-use Rattle.std.specs.Prelude.{ℕ, ◌%◌, ◌==◌, ◌&&◌, not, nat_le, nat_lt, if◌then◌else◌, List, [], ◌∷◌, Result, Ok, Err}
+use Rattle.std.specs.Prelude.{⊤, ℕ, ◌%◌, ◌==◌, ◌&&◌, not, nat_le, nat_lt, if◌then◌else◌, List, [], ◌∷◌, Result, Ok, Err}
 use Rattle.mdl_state.specs.declared.Size.{Size}
 use Rattle.mdl_state.specs.declared.Seg.TheVariants.{Cs, Ss}
 use Rattle.mdl_state.specs.declared.Regs.{Regs}
@@ -36,6 +36,11 @@ switch_to r sel = Done (record { regs = r; outcome = outcome.Switch sel })
 -- a way by the mode
 abbrev pub in_mode : {A : Type 0} → Regs → Plan A → Plan A → Plan A → Plan A
 in_mode r real virtual protected = if not (has_protection r) then real else if is_virtual r then virtual else protected
+
+-- a fact that holds where a switch follows
+abbrev pub IfSwitch : Outcome → Type 0 → Type 0
+IfSwitch outcome.Done P = ⊤
+IfSwitch (outcome.Switch sel) P = P
 
 -- what a call answers that makes a far transfer
 abbrev pub transferred : Result Outcome Fault → Regs → Attempted Transfer
