@@ -3,6 +3,7 @@ pub mod GateLaws
 pub mod ModeLaws
 pub mod WorkedRows
 pub mod WayLaws
+pub mod TransferLaws
 pub mod SwitchLaws
 pub mod ChoiceLaws
 pub mod ServingLaws
