@@ -5,6 +5,7 @@ pub mod WorkedRows
 pub mod WayLaws
 pub mod TransferLaws
 pub mod SwitchLaws
+pub mod KeptLaws
 pub mod ChoiceLaws
 pub mod ServingLaws
 pub mod DeliveryLaws

@@ -1,5 +1,5 @@
 -- The faults of a task switch, and why four deliveries are enough in every mode.
-use Rattle.std.proofs.Common.{◌≡◌, ◌<◌, ℕ, zero, suc, ◌+◌, Bool, true, false, refl, [], ◌∷◌, Option, arith, ◌∙◌}
+use Rattle.std.proofs.Common.{◌≡◌, ◌<◌, ℕ, zero, suc, ◌+◌, Bool, true, false, refl, sym, [], ◌∷◌, Option, arith, ◌∙◌}
 use Rattle.std.specs.Prelude.{⊤, List, ◌++◌, if◌then◌else◌, nat_lt, ◌%◌, ◌^◌, slice_set}
 use Rattle.mdl_state.specs.declared.Size.{Size}
 use Rattle.mdl_state.specs.declared.Size.TheVariants.{B2, B4}
@@ -28,10 +28,10 @@ use Rattle.mdl_cpu.specs.Segments.{has_protection}
 use Rattle.mdl_cpu.specs.DoubleFault.{class_of_fault, class_of, combine}
 use Rattle.mdl_cpu.specs.Transfers.{Transfer}
 use Rattle.mdl_cpu.specs.Gates.{gate_plan, gate_way_plan, with_ext}
-use Rattle.mdl_cpu.specs.Delivery.{Arrival}
+use Rattle.mdl_cpu.specs.Delivery.{Arrival, followed_by}
 use Rattle.mdl_cpu.specs.Deliveries.{IsSerious, Serious, IfFailed, RaisesPageFaults}
 use Rattle.mdl_cpu.specs.Switch.{Left, passing, staged, told, new_part, behind_old, switch}
-use Rattle.mdl_cpu.specs.TaskDeliveries.{task_request, entered, by_way, behind_gate, delivered_by_gate, settled, deliveries_by_gate, deliver_by_gate}
+use Rattle.mdl_cpu.specs.TaskDeliveries.{task_request, entered, by_way, behind_gate, delivered_by_gate, settled, behind_delivery, deliveries_by_gate, deliver_by_gate}
 use Rattle.mdl_cpu.proofs.ServingLaws.{tried_serious}
 use Rattle.mdl_cpu.proofs.DeliveryLaws.{extended_serious, rank_of, followed_same, combine_falls, more_below}
 use Rattle.mdl_cpu.specs.Tasks.{no_image, reads_plan, writes_plan, read_image_plan, save_image_plan, free_plan, busy_bits_plan, is_linked, link_plan}
@@ -237,3 +237,9 @@ module _ (serve : Serve) (raises : RaisesPageFaults serve) where
   no_fifth_by_gate zero cause r m = refl
   no_fifth_by_gate (suc n) cause r m = let e : 4 + suc n ≡ suc (4 + n) = omega arith in
       rw e (one_more (4 + n) cause r m (more_below (class_of cause) n) ∙ no_fifth_by_gate n cause r m)
+
+  -- AGAIN: so a delivery is one delivery, and behind the fault of that a delivery.
+  pub again_by_gate : (cause : Cause) (r : Regs) (m : Mem)
+      → deliver_by_gate serve cause r m ≡ behind_delivery (delivered_by_gate serve cause r m) (λ fault q n. followed_by (combine cause fault) q n (deliver_by_gate serve))
+  unfolding deliver_by_gate deliveries_by_gate
+  again_by_gate cause r m = sym (no_fifth_by_gate 1 cause r m)
