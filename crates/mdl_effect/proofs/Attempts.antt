@@ -9,12 +9,14 @@ use Rattle.mdl_state.specs.Attempt.{Plan, tried}
 use Rattle.mdl_state.specs.Ends.{IfPassed, tried_ends}
 use Rattle.mdl_insn.specs.declared.instruction.Insn.{Insn}
 use Rattle.mdl_insn.specs.Spelling.{Spelt}
+use Rattle.mdl_cpu.specs.Segments.{has_protection, is_protected}
 use Rattle.mdl_effect.specs.Operands.{After}
 use Rattle.mdl_effect.specs.DataEffects.{runs_data, data_effect}
 use Rattle.mdl_effect.specs.FlowEffects.{runs_flow, flow_effect}
 use Rattle.mdl_effect.specs.StringEffects.{runs_string, string_plan}
 use Rattle.mdl_effect.specs.FarEffects.{runs_far, far_effect}
-use Rattle.mdl_effect.specs.SystemEffects.{is_protected_only, runs_system, system_effect}
+use Rattle.mdl_effect.specs.ProtectionEffects.{is_protected_only}
+use Rattle.mdl_effect.specs.SystemEffects.{runs_system, system_effect}
 use Rattle.mdl_effect.specs.Ways.{IsDefined, Leaves, IsComplete, LeavesSound, IsSystemComplete}
 use Rattle.mdl_effect.proofs.FormLaws.{spelt_formed}
 use Rattle.mdl_effect.proofs.DataWays.{data_complete}
@@ -34,10 +36,11 @@ flow_spelt bytes big insn r back h e = flow_complete insn r back (spelt_formed b
 pub string_spelt : (bytes : List ℕ) (big : Bool) (insn : Insn) (r : Regs) (free : ℕ) → Spelt bytes big insn → runs_string insn.op ≡ true → IsComplete r (string_plan insn r free)
 string_spelt bytes big insn r free h e = string_complete insn r free e
 
-pub far_spelt : (bytes : List ℕ) (big : Bool) (insn : Insn) (r : Regs) (back : ℕ) → Spelt bytes big insn → runs_far insn ≡ true → IsComplete r (far_effect insn r back)
-far_spelt bytes big insn r back h e = far_complete insn r back (spelt_formed bytes big insn h) e
+pub far_spelt : (bytes : List ℕ) (big : Bool) (insn : Insn) (r : Regs) (back : ℕ) → Spelt bytes big insn → runs_far insn ≡ true → has_protection r ≡ false
+    → IsComplete r (far_effect insn r back)
+far_spelt bytes big insn r back h e real = far_complete insn r back real (spelt_formed bytes big insn h) e
 
-pub system_spelt : (bytes : List ℕ) (big : Bool) (insn : Insn) (r : Regs) (back : ℕ) → Spelt bytes big insn → runs_system insn ≡ true → is_protected_only insn.op ≡ false
+pub system_spelt : (bytes : List ℕ) (big : Bool) (insn : Insn) (r : Regs) (back : ℕ) → Spelt bytes big insn → runs_system insn ≡ true → (is_protected_only insn.op ≡ true → is_protected r ≡ true)
     → IsSystemComplete r (system_effect insn r back)
 system_spelt bytes big insn r back h e only = system_complete insn r back (spelt_formed bytes big insn h) e only
 

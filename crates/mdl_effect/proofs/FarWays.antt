@@ -1,4 +1,4 @@
--- Each way through the plan of a far transfer.
+-- Each way through the plan of a far transfer in real mode.
 use Rattle.std.proofs.Common.{◌≡◌, ◌<◌, ℕ, ◌+◌, ◌-◌, ◌*◌, ◌%◌, ◌^◌, ◌==◌, Bool, true, false, cond, refl, ap, ◌∙◌, arith, max, min, bit_and}
 use Rattle.std.specs.Prelude.{nat_le}
 use Rattle.std.specs.Int.{bit_at, bit_not, w32}
@@ -19,13 +19,14 @@ use Rattle.mdl_insn.specs.declared.mnemonics.Op.{Op}
 use Rattle.mdl_insn.specs.declared.mnemonics.Op.TheVariants as ops
 use Rattle.mdl_cpu.specs.declared.Outcome.{Outcome}
 use Rattle.mdl_cpu.specs.declared.Outcome.TheVariants as outcome
+use Rattle.mdl_cpu.specs.Segments.{has_protection}
 use Rattle.mdl_cpu.specs.Loads.{with_selector}
 use Rattle.mdl_cpu.specs.Steady.{Steady}
 use Rattle.mdl_cpu.specs.SystemFlags.{IF, IOPL, RF, AreFlags, io_level, common_flags, with_flags_from}
 use Rattle.mdl_cpu.specs.Transfers.{Transfer, made, land_plan, real_code_plan, jump_far_plan, push_place_plan, call_far_plan}
 use Rattle.mdl_cpu.specs.Returns.{return_far_plan, returned_flags, interrupt_return_plan}
-use Rattle.mdl_effect.specs.Operands.{After}
-use Rattle.mdl_effect.specs.FarEffects.{is_far, runs_far, go_on, go_on_by, behind_transfer, far_target, far_jump_plan, far_call_plan, far_return_plan, iret_plan, far_by, far_effect}
+use Rattle.mdl_cpu.proofs.ModeLaws.{real_jump, real_call, real_return, real_interrupt_return}
+use Rattle.mdl_effect.specs.FarEffects.{is_far, runs_far, FarTransfer, named, unnamed, far_target, far_jump_plan, far_call_plan, far_return_plan, iret_plan, far_by, far_transfer, go_on_by, behind_transfer, far_effect}
 use Rattle.mdl_effect.specs.Kinds.{is_far_target}
 use Rattle.mdl_effect.specs.Forms.{IsFormedAs, IsFormed}
 use Rattle.mdl_effect.specs.Ways.{Leaves, IsComplete}
@@ -122,69 +123,77 @@ record IsMade (o : Regs) (t : Transfer) : Type 0 where
 makes : (o r : Regs) → Steady o r → Ways (IsMade o) (made r)
 makes o r h = passes (record { outcome = refl; steady = h })
 
-jump_way : (r : Regs) (sel off : ℕ) (size : Size) → Ways (IsMade r) (jump_far_plan r sel off size)
-unfolding jump_far_plan
-jump_way r sel off size = then_way (code_way r r sel (off % bound_of size) (stays r)) (makes r)
+jump_way : (r : Regs) (sel off : ℕ) (size : Size) → has_protection r ≡ false → Ways (IsMade r) (jump_far_plan r sel off size)
+jump_way r sel off size real = rw (real_jump r sel off size real) (then_way (code_way r r sel (off % bound_of size) (stays r)) (makes r))
 
 place_way : (r : Regs) (size : Size) (back : ℕ) → Ways (Steady r) (push_place_plan r size back)
 unfolding push_place_plan
 place_way r size back = push_then r r _ _ _ (stays r) (λ q h. push_way r q size _ h)
 
-call_way : (r : Regs) (sel off : ℕ) (size : Size) (back : ℕ) → Ways (IsMade r) (call_far_plan r sel off size back)
-unfolding call_far_plan
-call_way r sel off size back = then_way (place_way r size back) (λ q h. then_way (code_way r q sel (off % bound_of size) h) (makes r))
+call_way : (r : Regs) (sel off : ℕ) (size : Size) (back : ℕ) → has_protection r ≡ false → Ways (IsMade r) (call_far_plan r sel off size back)
+call_way r sel off size back real = rw (real_call r sel off size back real)
+    (then_way (place_way r size back) (λ q h. then_way (code_way r q sel (off % bound_of size) h) (makes r)))
 
-return_way : (r : Regs) (size : Size) (drop : ℕ) → Ways (Steady r) (return_far_plan r size drop)
-unfolding return_far_plan
-return_way r size drop = pop_then r r _ _ (stays r) (λ eip h. pop_then r eip.1 _ _ h (λ cs k.
-    then_way (code_way r cs.1 _ _ k) (λ q l. passes (then_stays l (reg_stays q 4 _ _)))))
+return_way : (r : Regs) (size : Size) (drop : ℕ) → has_protection r ≡ false → Ways (Steady r) (return_far_plan r size drop)
+return_way r size drop real = rw (real_return r size drop real) (pop_then r r _ _ (stays r) (λ eip h. pop_then r eip.1 _ _ h (λ cs k.
+    then_way (code_way r cs.1 _ _ k) (λ q l. passes (then_stays l (reg_stays q 4 _ _))))))
 
-interrupt_way : (r : Regs) (size : Size) → Ways (IsMade r) (interrupt_return_plan r size)
-unfolding interrupt_return_plan
-interrupt_way r size = pop_then r r _ _ (stays r) (λ eip h. pop_then r eip.1 _ _ h (λ cs k. pop_then r cs.1 _ _ k (λ image l.
-    then_way (code_way r image.1 _ _ l) (λ q m. makes r _ (image_stays r q image.0 size m)))))
+interrupt_way : (r : Regs) (size : Size) → has_protection r ≡ false → Ways (IsMade r) (interrupt_return_plan r size)
+interrupt_way r size real = rw (real_interrupt_return r size real) (pop_then r r _ _ (stays r) (λ eip h. pop_then r eip.1 _ _ h (λ cs k. pop_then r cs.1 _ _ k (λ image l.
+    then_way (code_way r image.1 _ _ l) (λ q m. makes r _ (image_stays r q image.0 size m))))))
 
 -- ---- the instructions
 
-goes_on : (o r : Regs) → Steady o r → Ways (Leaves o) (go_on r)
-goes_on o r h = passes (h, tt)
+-- so it does behind the selector that an instruction names
+record IsMadeBy (o : Regs) (f : FarTransfer) : Type 0 where
+  pub transfer : IsMade o f.transfer
 
-by_way : (o : Regs) (way : Outcome) (r : Regs) → way ≡ outcome.Done → Steady o r → Ways (Leaves o) (go_on_by way r)
-by_way o outcome.Done r e h = goes_on o r h
-by_way o (outcome.Switch sel) r e h = absurd cc
+names : (o : Regs) (selector : ℕ) (t : Transfer) → IsMade o t → Ways (IsMadeBy o) (named selector t)
+names o selector t h = passes (record { transfer = h })
 
-goes_behind : (o : Regs) (t : Transfer) → IsMade o t → Ways (Leaves o) (behind_transfer t)
-goes_behind o t h = by_way o t.outcome t.regs h.outcome h.steady
+names_none : (o : Regs) (t : Transfer) → IsMade o t → Ways (IsMadeBy o) (unnamed t)
+names_none o t h = passes (record { transfer = h })
 
-far_targets : {o : Regs} (r : Regs) (a : Operand) (size : Size) (k : ℕ → ℕ → Plan After) → is_far_target a ≡ true
-    → ((selector offset : ℕ) → Ways (Leaves o) (k selector offset)) → Ways (Leaves o) (far_target a size r k)
+far_targets : {A : Type 0} {P : A → Type 0} (r : Regs) (a : Operand) (size : Size) (k : ℕ → ℕ → Plan A) → is_far_target a ≡ true
+    → ((selector offset : ℕ) → Ways P (k selector offset)) → Ways P (far_target a size r k)
 far_targets r (Far selector offset) size k e h = h selector offset
 far_targets r (At mem own) size k e h = load_then _ _ _ _ _ (λ offset. load_then _ _ _ _ _ (λ selector. h selector offset))
 far_targets r _ size k e h = absurd cc
 
-far_jump_way : (insn : Insn) (r : Regs) → is_far_target insn.a ≡ true → Ways (Leaves r) (far_jump_plan insn r)
+far_jump_way : (insn : Insn) (r : Regs) → has_protection r ≡ false → is_far_target insn.a ≡ true → Ways (IsMadeBy r) (far_jump_plan insn r)
 unfolding far_jump_plan
-far_jump_way insn r a = far_targets r insn.a insn.size _ a (λ selector offset. then_way (jump_way r selector offset insn.size) (goes_behind r))
+far_jump_way insn r real a = far_targets r insn.a insn.size _ a (λ selector offset. then_way (jump_way r selector offset insn.size real) (names r selector))
 
-far_call_way : (insn : Insn) (r : Regs) (back : ℕ) → is_far_target insn.a ≡ true → Ways (Leaves r) (far_call_plan insn r back)
+far_call_way : (insn : Insn) (r : Regs) (back : ℕ) → has_protection r ≡ false → is_far_target insn.a ≡ true → Ways (IsMadeBy r) (far_call_plan insn r back)
 unfolding far_call_plan
-far_call_way insn r back a = far_targets r insn.a insn.size _ a (λ selector offset. then_way (call_way r selector offset insn.size back) (goes_behind r))
+far_call_way insn r back real a = far_targets r insn.a insn.size _ a (λ selector offset. then_way (call_way r selector offset insn.size back real) (names r selector))
 
-far_return_way : (insn : Insn) (r : Regs) → Ways (Leaves r) (far_return_plan insn r)
+far_return_way : (insn : Insn) (r : Regs) → has_protection r ≡ false → Ways (IsMadeBy r) (far_return_plan insn r)
 unfolding far_return_plan
-far_return_way insn r = then_way (return_way r insn.size _) (goes_on r)
+far_return_way insn r real = then_way (return_way r insn.size _ real) (λ q h. then_way (makes r q h) (names_none r))
 
-iret_way : (insn : Insn) (r : Regs) → Ways (Leaves r) (iret_plan insn r)
+iret_way : (insn : Insn) (r : Regs) → has_protection r ≡ false → Ways (IsMadeBy r) (iret_plan insn r)
 unfolding iret_plan
-iret_way insn r = then_way (interrupt_way r insn.size) (goes_behind r)
+iret_way insn r real = then_way (interrupt_way r insn.size real) (names_none r)
 
-far_way : (op : Op) (insn : Insn) (r : Regs) (back : ℕ) → IsFormedAs op insn → is_far op ≡ true → Ways (Leaves r) (far_by op insn r back)
-far_way ops.Callf insn r back f e = far_call_way insn r back f.1.0.0
-far_way ops.Jmpf insn r back f e = far_jump_way insn r f.1.0.0
-far_way ops.Retf insn r back f e = far_return_way insn r
-far_way ops.Iret insn r back f e = iret_way insn r
-far_way _ insn r back f e = absurd cc
+far_way : (op : Op) (insn : Insn) (r : Regs) (back : ℕ) → has_protection r ≡ false → IsFormedAs op insn → is_far op ≡ true → Ways (IsMadeBy r) (far_by op insn r back)
+far_way ops.Callf insn r back real f e = far_call_way insn r back real f.1.0.0
+far_way ops.Jmpf insn r back real f e = far_jump_way insn r real f.1.0.0
+far_way ops.Retf insn r back real f e = far_return_way insn r real
+far_way ops.Iret insn r back real f e = iret_way insn r real
+far_way _ insn r back real f e = absurd cc
 
-pub far_complete : (insn : Insn) (r : Regs) (back : ℕ) → IsFormed insn → runs_far insn ≡ true → IsComplete r (far_effect insn r back)
+by_way : (o : Regs) (way : Outcome) (r : Regs) → way ≡ outcome.Done → Steady o r → Ways (Leaves o) (go_on_by way r)
+by_way o outcome.Done r e h = passes (h, tt)
+by_way o (outcome.Switch sel) r e h = absurd cc
+
+goes_behind : (o : Regs) (f : FarTransfer) → IsMadeBy o f → Ways (Leaves o) (behind_transfer f)
+goes_behind o f h = by_way o f.transfer.outcome f.transfer.regs h.transfer.outcome h.transfer.steady
+
+transfer_way : (insn : Insn) (r : Regs) (back : ℕ) → has_protection r ≡ false → IsFormed insn → runs_far insn ≡ true → Ways (IsMadeBy r) (far_transfer insn r back)
+unfolding far_transfer
+transfer_way insn r back real f e = far_way insn.op insn r back real f e
+
+pub far_complete : (insn : Insn) (r : Regs) (back : ℕ) → has_protection r ≡ false → IsFormed insn → runs_far insn ≡ true → IsComplete r (far_effect insn r back)
 unfolding far_effect
-far_complete insn r back f e = (far_way insn.op insn r back f e).ends
+far_complete insn r back real f e = (then_way (transfer_way insn r back real f e) (goes_behind r)).ends

@@ -3,9 +3,12 @@ pub mod FormLaws
 pub mod Registers
 pub mod Operations
 pub mod LoadWays
+pub mod PortWays
+pub mod LevelWays
 pub mod DataWays
 pub mod FlowWays
 pub mod StringWays
 pub mod FarWays
+pub mod ProtectionWays
 pub mod SystemWays
 pub mod Attempts

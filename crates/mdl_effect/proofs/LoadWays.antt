@@ -1,4 +1,4 @@
--- Loads of segment registers as parts of plans: what each way through them ends with.
+-- Loads of segment registers, of LDTR and of TR as parts of plans: what each way through them ends with.
 use Rattle.std.proofs.Common.{ℕ, Bool, true, false, arith}
 use Rattle.std.specs.Prelude.{⊤, if◌then◌else◌, not, List, [], ◌∷◌, Err}
 use Rattle.mdl_state.specs.declared.Seg.{Seg}
@@ -10,15 +10,15 @@ use Rattle.mdl_state.specs.Attempt.{Plan, then_plan, checked}
 use Rattle.mdl_cpu.specs.declared.Desc.{Desc}
 use Rattle.mdl_cpu.specs.Segments.{has_protection, is_virtual}
 use Rattle.mdl_cpu.specs.Faults.{Row, row, first_of, fault_at}
-use Rattle.mdl_cpu.specs.Descriptors.{is_null, is_outside, descriptor_at, descriptor_plan, mark_plan, accessed_plan}
-use Rattle.mdl_cpu.specs.Loads.{by_mode, with_selector, known_plan, data_rows, data_plan, stack_rows, stack_plan, load_data_plan, load_stack_plan, load_plan}
+use Rattle.mdl_cpu.specs.Descriptors.{is_null, in_ldt, is_outside, place_of, descriptor_at, descriptor_plan, mark_plan, accessed_plan, busy_plan}
+use Rattle.mdl_cpu.specs.Loads.{by_mode, with_selector, known_plan, data_rows, data_plan, stack_rows, stack_plan, load_data_plan, load_stack_plan, load_plan, null_segment, hidden_of, ldt_rows, load_ldt_plan, task_rows, load_task_plan}
 use Rattle.mdl_cpu.specs.Steady.{Steady}
 use Rattle.mdl_effect.specs.Ways.{IsDefined}
-use Rattle.mdl_effect.proofs.Registers.{then_stays, seg_stays}
+use Rattle.mdl_effect.proofs.Registers.{then_stays, seg_stays, ldtr_stays, tr_stays}
 use Rattle.mdl_effect.proofs.Operations.{Ways, passes, fails, then_way, either_way}
 
 -- no row is the fault of an instruction that is not defined
-abbrev AllDefined : List Row → Type 0
+abbrev pub AllDefined : List Row → Type 0
 AllDefined [] = ⊤
 AllDefined (r ∷ rs) = IsDefined r.fault × AllDefined rs
 
@@ -28,16 +28,20 @@ row_way true fault rest k d h = fails d
 row_way false fault rest k d h = h
 
 -- a plan behind rows
-rows_way : {A : Type 0} {P : A → Type 0} (rows : List Row) (k : Unit {0} → Plan A) → AllDefined rows → Ways P (k tt) → Ways P (checked (first_of rows) k)
+pub rows_way : {A : Type 0} {P : A → Type 0} (rows : List Row) (k : Unit {0} → Plan A) → AllDefined rows → Ways P (k tt) → Ways P (checked (first_of rows) k)
 rows_way [] k d h = h
 rows_way (r ∷ rs) k d h = row_way r.holds r.fault rs k d.0 (rows_way rs k d.1 h)
 
-abbrev Any : {A : Type 0} → A → Type 0
+abbrev pub Any : {A : Type 0} → A → Type 0
 Any x = ⊤
 
+pub read_way : (at : ℕ) → Ways Any (descriptor_at at)
+unfolding descriptor_at
+read_way at = record { ends = λ low high. tt }
+
 descriptor_way : (r : Regs) (sel : ℕ) → Ways Any (descriptor_plan r sel 13)
-unfolding descriptor_plan descriptor_at
-descriptor_way r sel = rows_way (row (is_outside r sel) (fault_at 13 sel) ∷ []) _ (omega arith, tt) (record { ends = λ low high. tt })
+unfolding descriptor_plan
+descriptor_way r sel = rows_way (row (is_outside r sel) (fault_at 13 sel) ∷ []) _ (omega arith, tt) (read_way (place_of r sel))
 
 accessed_way : (d : Desc) → Ways Any (accessed_plan d)
 unfolding accessed_plan mark_plan
@@ -81,3 +85,21 @@ segment_way o r seg sel h = data_load_way o r seg sel h
 pub segment_then : {A : Type 0} {P : A → Type 0} (o r : Regs) (seg : Seg) (sel : ℕ) (f : Regs → Plan A) → Steady o r
     → ((q : Regs) → Steady o q → Ways P (f q)) → Ways P (then_plan (load_plan r seg sel) f)
 segment_then o r seg sel f h k = then_way (segment_way o r seg sel h) k
+
+-- ---- LDTR and TR
+
+pub ldt_way : (r : Regs) (sel : ℕ) → Ways (Steady r) (load_ldt_plan r sel)
+unfolding load_ldt_plan
+ldt_way r sel = either_way (is_null sel) (passes (ldtr_stays r (null_segment sel)))
+    (rows_way (row (in_ldt sel) (fault_at 13 sel) ∷ []) _ (omega arith, tt)
+    (then_way (descriptor_way r sel) (λ d _. rows_way (ldt_rows sel d) _ (omega arith, (omega arith, tt)) (passes (ldtr_stays r (hidden_of sel d))))))
+
+busy_way : (d : Desc) → Ways Any (busy_plan d)
+unfolding mark_plan
+busy_way d = record { ends = λ place byte. tt }
+
+pub task_way : (r : Regs) (sel : ℕ) → Ways (Steady r) (load_task_plan r sel)
+unfolding load_task_plan
+task_way r sel = rows_way (row (is_null sel) (fault_at 13 0) ∷ row (in_ldt sel) (fault_at 13 sel) ∷ []) _ (omega arith, (omega arith, tt))
+    (then_way (descriptor_way r sel) (λ d _. rows_way (task_rows sel d) _ (omega arith, (omega arith, tt))
+    (then_way (busy_way d) (λ _ _. passes (tr_stays r (hidden_of sel d))))))

@@ -53,6 +53,12 @@ pub seg_stays : (r : Regs) (seg : Seg) (hidden : Hidden) → Steady r (with_seg 
 unfolding with_seg
 seg_stays r seg hidden = record { cr0 = refl; cr3 = refl; cpl = refl; virtual = refl; flags = λ h. h }
 
+pub ldtr_stays : (r : Regs) (hidden : Hidden) → Steady r (record r { ldtr = hidden })
+ldtr_stays r hidden = record { cr0 = refl; cr3 = refl; cpl = refl; virtual = refl; flags = λ h. h }
+
+pub tr_stays : (r : Regs) (hidden : Hidden) → Steady r (record r { tr = hidden })
+tr_stays r hidden = record { cr0 = refl; cr3 = refl; cpl = refl; virtual = refl; flags = λ h. h }
+
 pub eip_stays : (r : Regs) (eip : ℕ) → Steady r (record r { eip = eip })
 eip_stays r eip = record { cr0 = refl; cr3 = refl; cpl = refl; virtual = refl; flags = λ h. h }
 
@@ -140,9 +146,12 @@ flags_stay r status free = eflags_stay r _
 bit_stays : (r : Regs) (k b : ℕ) → b < 2 → IsFlag k → Steady r (record r { eflags = with_bit r.eflags k b })
 bit_stays r k b two is = eflags_stay r _ (bit_keeps r.eflags k b two is)
 
--- CF and DF by themselves
+-- CF, ZF and DF by themselves
 pub carry_stays : (r : Regs) (on : Bool) → Steady r (record r { eflags = with_bit r.eflags CF (from_bool on) })
 carry_stays r on = bit_stays r CF (from_bool on) (from_bool-lt on) is_cf
+
+pub zero_stays : (r : Regs) (on : Bool) → Steady r (record r { eflags = with_bit r.eflags ZF (from_bool on) })
+zero_stays r on = bit_stays r ZF (from_bool on) (from_bool-lt on) is_zf
 
 pub direction_stays : (r : Regs) (on : Bool) → Steady r (record r { eflags = with_bit r.eflags 10 (from_bool on) })
 direction_stays r on = bit_stays r 10 (from_bool on) (from_bool-lt on) is_df

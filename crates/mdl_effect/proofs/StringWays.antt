@@ -15,6 +15,7 @@ use Rattle.mdl_effect.specs.StringEffects.{runs_string, goes_on, past_source, pa
 use Rattle.mdl_effect.specs.Ways.{Leaves, IsComplete}
 use Rattle.mdl_effect.proofs.Registers.{stays, then_stays, reg_stays, flags_stay}
 use Rattle.mdl_effect.proofs.Operations.{follows, Ways, passes, then_way, either_way, legal_way, load_then, store_then}
+use Rattle.mdl_effect.proofs.PortWays.{port_then}
 
 past_source_stays : (r : Regs) (insn : Insn) → Steady r (past_source r insn)
 past_source_stays r insn = reg_stays r 6 _ _
@@ -54,11 +55,11 @@ module _ (insn : Insn) (r : Regs) where
 
   input_way : Ways (Leaves r) (input_string_plan insn r)
   unfolding input_string_plan
-  input_way = legal_way r _ _ _ _ _ (λ at. record { ends = λ place value. (past_destination_stays r insn, tt) })
+  input_way = port_then r _ _ _ (λ _. legal_way r _ _ _ _ _ (λ at. record { ends = λ place value. (past_destination_stays r insn, tt) }))
 
   output_way : Ways (Leaves r) (output_string_plan insn r)
   unfolding output_string_plan
-  output_way = load_then _ _ _ _ _ (λ value. passes (past_source_stays r insn, tt))
+  output_way = port_then r _ _ _ (λ _. load_then _ _ _ _ _ (λ value. passes (past_source_stays r insn, tt)))
 
   by_way : (op : Op) (free : ℕ) → runs_string op ≡ true → Ways (Leaves r) (iterate_by op insn r free)
   by_way ops.Movs free e = then_way move_way (λ _ h. follows h)

@@ -4,15 +4,14 @@ use Rattle.std.specs.Prelude.{⊤, ◌||◌, not, if◌then◌else◌, slice_set
 use Rattle.std.specs.Int.{bit_at}
 use Rattle.std.proofs.lemmas.Nat.Bits.{bit_at-lt}
 use Rattle.std.proofs.lemmas.Bool.Decides.{nat_tests}
-use Rattle.mdl_state.specs.declared.Size.{Size}
 use Rattle.mdl_state.specs.declared.Size.TheVariants.{B2}
 use Rattle.mdl_state.specs.declared.Fault.{Fault}
 use Rattle.mdl_state.specs.declared.Next.{Next}
 use Rattle.mdl_state.specs.declared.Next.TheVariants.{Soft, Task}
 use Rattle.mdl_state.specs.declared.Regs.{Regs}
 use Rattle.mdl_state.specs.Bytes.{bit}
-use Rattle.mdl_state.specs.Attempt.{Plan, Done, Fail, Load, Store, Translate, Get, Hold, Input, then_plan}
-use Rattle.mdl_state.specs.Ends.{Ends}
+use Rattle.mdl_state.specs.Attempt.{Plan, Done, Fail, Load, Store, Translate, Get, Hold, Input}
+use Rattle.mdl_state.specs.Ends.{Ends, either_ends}
 use Rattle.mdl_num.specs.Flags.{is_set, with_bit}
 use Rattle.mdl_num.specs.declared.status.TheConstants.{OF}
 use Rattle.mdl_num.proofs.Places.{bit_at-with_bit}
@@ -21,22 +20,28 @@ use Rattle.mdl_insn.specs.declared.instruction.Operand.{Operand}
 use Rattle.mdl_insn.specs.declared.instruction.Operand.TheVariants.{Gpr, Creg, Dreg, At}
 use Rattle.mdl_insn.specs.declared.mnemonics.Op.{Op}
 use Rattle.mdl_insn.specs.declared.mnemonics.Op.TheVariants as ops
+use Rattle.mdl_cpu.specs.Segments.{is_protected}
 use Rattle.mdl_cpu.specs.Faults.{undefined_opcode}
+use Rattle.mdl_cpu.specs.Virtual.{sensitive_rows}
 use Rattle.mdl_cpu.specs.Steady.{IsSound, Steady, steady_sound}
-use Rattle.mdl_effect.specs.Operands.{After, IsOrdinary, follow, is_plain, memory_write, value_of}
+use Rattle.mdl_effect.specs.Operands.{After, IsOrdinary, follow, value_of}
 use Rattle.mdl_effect.specs.Kinds.{is_memory, is_place}
 use Rattle.mdl_effect.specs.DataEffects.{is_special}
-use Rattle.mdl_effect.specs.Moves.{with_sized}
-use Rattle.mdl_effect.specs.InterruptEffects.{privileged, with_io_rights, interrupt_plan, overflow_plan, push_flags_plan, pop_flags_plan, clear_interrupts_plan, set_interrupts_plan, halt_plan}
+use Rattle.mdl_effect.specs.InterruptEffects.{io_rows, with_io_rights, sensitive, interrupt_plan, numbered_interrupt_plan, overflow_plan, push_flags_plan, pop_flags_plan, clear_interrupts_plan, set_interrupts_plan, halt_plan}
 use Rattle.mdl_effect.specs.PortEffects.{in_plan, out_plan}
 use Rattle.mdl_effect.specs.TableEffects.{table_read, table_write, load_gdt_plan, load_idt_plan, store_gdt_plan, store_idt_plan}
 use Rattle.mdl_effect.specs.ControlEffects.{with_bits_of, PE, MP, EM, TS, PG, with_control_register, set_control_plan, with_debug_register, special_move_of, special_move_plan, store_status_word_plan, with_status_word, load_status_word_plan, clear_task_switched_plan, wait_plan, escape_plan}
-use Rattle.mdl_effect.specs.SystemEffects.{is_system, is_protected_only, is_mov, is_special_move, runs_system, system_by, system_effect}
+use Rattle.mdl_effect.specs.ProtectionEffects.{is_protected_only, protected_by, protected_plan}
+use Rattle.mdl_effect.specs.SystemEffects.{is_system, is_mov, is_special_move, runs_system, system_by, system_effect}
 use Rattle.mdl_effect.specs.Forms.{IsFormedAs, IsFormed}
 use Rattle.mdl_effect.specs.Ways.{IsDefined, Leaves, LeavesTo, LeavesSound, IsSystemComplete}
-use Rattle.mdl_effect.proofs.Registers.{stays, reg_stays, value_stays, sized_stays, same_bit, interrupts_stay}
+use Rattle.mdl_effect.proofs.Registers.{stays, reg_stays, value_stays, same_bit, interrupts_stay}
 use Rattle.mdl_effect.proofs.FarWays.{image_stays}
 use Rattle.mdl_effect.proofs.Operations.{follows, Ways, passes, fails, either_way, then_way, load_then, store_any, store_then, push_then, pop_then, place_read, reads}
+use Rattle.mdl_effect.proofs.LoadWays.{rows_way}
+use Rattle.mdl_effect.proofs.PortWays.{port_then}
+use Rattle.mdl_effect.proofs.LevelWays.{if_false, at_level_0, stores_word}
+use Rattle.mdl_effect.proofs.ProtectionWays.{protected_way}
 
 -- ---- what leaves the mode leaves the registers sound
 
@@ -61,23 +66,11 @@ steadily {r} {plan} h = record { ends = weaker (Leaves r) (LeavesSound r) IsDefi
 
 -- ---- checks
 
--- one of two plans, by a test
-if_true : {P : After → Type 0} (c : Bool) {p q : Plan After} → (c ≡ true → Ways P p) → Ways P q → Ways P (if c then p else q)
-if_true true h k = h refl
-if_true false h k = k
-
-if_false : {P : After → Type 0} (c : Bool) {p q : Plan After} → Ways P p → (c ≡ false → Ways P q) → Ways P (if c then p else q)
-if_false true h k = h
-if_false false h k = k refl
-
-level_0 : (n : ℕ) → (n == 0) ≡ true → n ≡ 0
-level_0 n e = grind (arith, nat_tests)
-
-at_level_0 : {P : After → Type 0} (r : Regs) {plan : Plan After} → (r.cpl ≡ 0 → Ways P plan) → Ways P (privileged r plan)
-at_level_0 r h = if_true (r.cpl == 0) (λ e. h (level_0 r.cpl e)) (fails (omega arith))
-
 by_io_rights : {P : After → Type 0} (r : Regs) {plan : Plan After} → Ways P plan → Ways P (with_io_rights r plan)
-by_io_rights r h = either_way _ h (fails (omega arith))
+by_io_rights r h = rows_way (io_rows r) _ (omega arith, tt) h
+
+by_sensitive : {P : After → Type 0} (r : Regs) {plan : Plan After} → Ways P plan → Ways P (sensitive r plan)
+by_sensitive r h = rows_way (sensitive_rows r) _ (omega arith, tt) h
 
 -- ---- interrupts and flags
 
@@ -85,17 +78,21 @@ interrupt_way : (vector : ℕ) (r : Regs) → Ways (LeavesSound r) (interrupt_pl
 unfolding interrupt_plan
 interrupt_way vector r = passes (λ sound. sound, refl)
 
+numbered_interrupt_way : (vector : ℕ) (r : Regs) → Ways (LeavesSound r) (numbered_interrupt_plan vector r)
+unfolding numbered_interrupt_plan
+numbered_interrupt_way vector r = by_sensitive r (interrupt_way vector r)
+
 overflow_way : (r : Regs) → Ways (LeavesSound r) (overflow_plan r)
 unfolding overflow_plan
 overflow_way r = either_way (is_set r.eflags OF) (interrupt_way 4 r) (steadily (follows (stays r)))
 
 push_flags_way : (insn : Insn) (r : Regs) → Ways (Leaves r) (push_flags_plan insn r)
 unfolding push_flags_plan
-push_flags_way insn r = push_then r r _ _ _ (stays r) (λ _ h. follows h)
+push_flags_way insn r = by_sensitive r (push_then r r _ _ _ (stays r) (λ _ h. follows h))
 
 pop_flags_way : (insn : Insn) (r : Regs) → Ways (Leaves r) (pop_flags_plan insn r)
 unfolding pop_flags_plan
-pop_flags_way insn r = pop_then r r _ _ (stays r) (λ popped h. follows (image_stays r popped.1 popped.0 B2 h))
+pop_flags_way insn r = by_sensitive r (pop_then r r _ _ (stays r) (λ popped h. follows (image_stays r popped.1 popped.0 B2 h)))
 
 clear_interrupts_way : (r : Regs) → Ways (Leaves r) (clear_interrupts_plan r)
 unfolding clear_interrupts_plan
@@ -113,11 +110,11 @@ halt_way r = at_level_0 r (λ _. passes (stays r, tt))
 
 in_way : (insn : Insn) (r : Regs) → Ways (Leaves r) (in_plan insn r)
 unfolding in_plan
-in_way insn r = record { ends = λ value. (reg_stays r 0 insn.size value, tt) }
+in_way insn r = port_then r _ _ _ (λ _. record { ends = λ value. (reg_stays r 0 insn.size value, tt) })
 
 out_way : (insn : Insn) (r : Regs) → Ways (Leaves r) (out_plan insn r)
 unfolding out_plan
-out_way insn r = passes (stays r, tt)
+out_way insn r = port_then r _ _ _ (λ _. passes (stays r, tt))
 
 -- ---- the registers of the descriptor tables
 
@@ -234,16 +231,9 @@ special_move_way insn r e = at_level_0 r (λ zero. special_way insn.a insn.b r e
 
 -- ---- the machine status word and the coprocessor
 
-stores_word : (a : Operand) (size : Size) (word : ℕ) (r : Regs) → is_place a ≡ true
-    → Ways (Leaves r) (if is_plain a then follow (with_sized r a size word) else then_plan (memory_write r a word) (λ _. follow r))
-unfolding memory_write
-stores_word (Gpr n own) size word r e = follows (sized_stays r (Gpr n own) size word)
-stores_word (At mem own) size word r e = store_then _ _ _ _ _ _ (λ _. follows (stays r))
-stores_word _ size word r e = absurd cc
-
 store_status_word_way : (insn : Insn) (r : Regs) → is_place insn.a ≡ true → Ways (Leaves r) (store_status_word_plan insn r)
 unfolding store_status_word_plan
-store_status_word_way insn r a = stores_word insn.a insn.size _ r a
+store_status_word_way insn r a = stores_word insn r _ a
 
 -- protection stays or begins, and paging stays
 loaded_paging : (n word : ℕ) → bit (with_bits_of word n (MP ∷ EM ∷ TS ∷ [])) 31 ≡ bit n 31
@@ -284,7 +274,7 @@ escape_way r = either_way _ (fails (omega arith)) (follows (stays r))
 
 system_way : (op : Op) (insn : Insn) (r : Regs) → IsFormedAs op insn → (is_system op || (is_mov op && (is_special insn.a || is_special insn.b))) ≡ true
     → Ways (LeavesSound r) (system_by op insn r)
-system_way ops.Int insn r f e = interrupt_way _ r
+system_way ops.Int insn r f e = numbered_interrupt_way _ r
 system_way ops.Int3 insn r f e = interrupt_way 3 r
 system_way ops.Into insn r f e = overflow_way r
 system_way ops.Pushf insn r f e = steadily (push_flags_way insn r)
@@ -311,28 +301,47 @@ without true b c e h = refl
 without false true c e h = absurd cc
 without false false c e h = e
 
-pub system_complete : (insn : Insn) (r : Regs) (back : ℕ) → IsFormed insn → runs_system insn ≡ true → is_protected_only insn.op ≡ false → IsSystemComplete r (system_effect insn r back)
+-- ---- those of protected mode
+
+by_mode : (op : Op) (insn : Insn) (r : Regs) → is_protected_only op ≡ true → system_by op insn r ≡ protected_plan op insn r
+by_mode ops.Arpl insn r e = refl
+by_mode ops.Lar insn r e = refl
+by_mode ops.Lsl insn r e = refl
+by_mode ops.Verr insn r e = refl
+by_mode ops.Verw insn r e = refl
+by_mode ops.Sldt insn r e = refl
+by_mode ops.Str insn r e = refl
+by_mode ops.Lldt insn r e = refl
+by_mode ops.Ltr insn r e = refl
+by_mode _ insn r e = absurd cc
+
+pub protected_effect : (insn : Insn) (r : Regs) (back : ℕ) → is_protected_only insn.op ≡ true → system_effect insn r back ≡ protected_plan insn.op insn r
 unfolding system_effect
-system_complete insn r back f e h = (system_way insn.op insn r f (without (is_system insn.op) (is_protected_only insn.op) (is_special_move insn) e h)).ends
+protected_effect insn r back e = by_mode insn.op insn r e
 
--- ---- those of protected mode as well
+protected_sound : (op : Op) (insn : Insn) (r : Regs) → IsFormedAs op insn → is_protected_only op ≡ true → Ways (LeavesSound r) (protected_by op insn r)
+protected_sound op insn r f e = steadily (protected_way op insn r f e)
 
-protected_fails : (op : Op) (insn : Insn) (r : Regs) → is_protected_only op ≡ true → system_by op insn r ≡ Fail undefined_opcode
-protected_fails ops.Arpl insn r e = refl
-protected_fails ops.Lar insn r e = refl
-protected_fails ops.Lsl insn r e = refl
-protected_fails ops.Verr insn r e = refl
-protected_fails ops.Verw insn r e = refl
-protected_fails ops.Sldt insn r e = refl
-protected_fails ops.Str insn r e = refl
-protected_fails ops.Lldt insn r e = refl
-protected_fails ops.Ltr insn r e = refl
-protected_fails _ insn r e = absurd cc
+in_protected_mode : {P : After → Type 0} (c : Bool) (p q : Plan After) → c ≡ true → Ways P p → Ways P (if c then p else q)
+in_protected_mode true p q e h = h
+in_protected_mode false p q e h = absurd cc
+
+pub system_complete : (insn : Insn) (r : Regs) (back : ℕ) → IsFormed insn → runs_system insn ≡ true → (is_protected_only insn.op ≡ true → is_protected r ≡ true)
+    → IsSystemComplete r (system_effect insn r back)
+unfolding system_effect
+system_complete insn r back f e h = elim (is_protected_only insn.op) as (λ v. is_protected_only insn.op ≡ v → IsSystemComplete r (system_by insn.op insn r)) [
+  | true ↦ λ only. rw (by_mode insn.op insn r only) (in_protected_mode (is_protected r) (protected_by insn.op insn r) (Fail undefined_opcode) (h only) (protected_sound insn.op insn r f only)).ends
+  | false ↦ λ other. (system_way insn.op insn r f (without (is_system insn.op) (is_protected_only insn.op) (is_special_move insn) e other)).ends
+] refl
 
 -- whatever the check that fails
 pub system_sound : (insn : Insn) (r : Regs) (back : ℕ) → IsFormed insn → runs_system insn ≡ true → Ends (LeavesSound r) (λ (_ : Fault). ⊤) (system_effect insn r back)
 unfolding system_effect
 system_sound insn r back f e = elim (is_protected_only insn.op) as (λ v. is_protected_only insn.op ≡ v → Ends (LeavesSound r) (λ (_ : Fault). ⊤) (system_by insn.op insn r)) [
-  | true ↦ λ h. rw (protected_fails insn.op insn r h) tt
-  | false ↦ λ h. weaker (LeavesSound r) (LeavesSound r) IsDefined (λ (_ : Fault). ⊤) (system_by insn.op insn r) (λ after l. l) (λ fault d. tt) (system_complete insn r back f e h)
+  | true ↦ λ only. rw (by_mode insn.op insn r only) (either_ends (LeavesSound r) (λ (_ : Fault). ⊤) (is_protected r) (protected_by insn.op insn r) (Fail undefined_opcode)
+      (anyhow (protected_by insn.op insn r) (protected_sound insn.op insn r f only).ends) tt)
+  | false ↦ λ other. anyhow (system_by insn.op insn r) (system_way insn.op insn r f (without (is_system insn.op) (is_protected_only insn.op) (is_special_move insn) e other)).ends
 ] refl
+  where
+    anyhow : (plan : Plan After) → IsSystemComplete r plan → Ends (LeavesSound r) (λ (_ : Fault). ⊤) plan
+    anyhow plan h = weaker (LeavesSound r) (LeavesSound r) IsDefined (λ (_ : Fault). ⊤) plan (λ after l. l) (λ fault d. tt) h

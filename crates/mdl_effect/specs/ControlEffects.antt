@@ -5,14 +5,14 @@ use Rattle.std.specs.Int.{bit_at}
 use Rattle.mdl_state.specs.declared.Regs.{Regs}
 use Rattle.mdl_state.specs.declared.Fault.{Fault}
 use Rattle.mdl_state.specs.Bytes.{bit}
-use Rattle.mdl_state.specs.Attempt.{Plan, Fail, then_plan}
+use Rattle.mdl_state.specs.Attempt.{Plan, Fail}
 use Rattle.mdl_num.specs.Flags.{with_bit}
 use Rattle.mdl_insn.specs.declared.instruction.Insn.{Insn}
 use Rattle.mdl_insn.specs.declared.instruction.Operand.{Operand}
 use Rattle.mdl_insn.specs.declared.instruction.Operand.TheVariants.{Creg, Dreg}
 use Rattle.mdl_cpu.specs.Faults.{coded_fault, general_protection}
-use Rattle.mdl_effect.specs.Operands.{After, follow, no_such, memory_write, is_plain, value_of, with_value, reading}
-use Rattle.mdl_effect.specs.Moves.{with_sized}
+use Rattle.mdl_effect.specs.Operands.{After, follow, no_such, value_of, with_value, reading}
+use Rattle.mdl_effect.specs.Moves.{storing_word}
 use Rattle.mdl_effect.specs.InterruptEffects.{privileged}
 
 -- the bits of CR0: protection, a coprocessor to be waited for, one that is emulated, a task that was switched
@@ -81,11 +81,9 @@ special_move_plan insn r = privileged r (special_move_of insn.a insn.b r)
 
 -- ---- the machine status word, which is the low word of CR0
 
--- SMSW: a doubleword register is zero extended, and memory gets a word. Own: Words into doubleword registers.
+-- SMSW
 unfoldable pub store_status_word_plan : Insn → Regs → Plan After
-store_status_word_plan insn r =
-    if is_plain insn.a then follow (with_sized r insn.a insn.size (r.cr0 % 2 ^ 16))
-    else then_plan (memory_write r insn.a (r.cr0 % 2 ^ 16)) (λ _. follow r)
+store_status_word_plan insn r = storing_word insn r (r.cr0 % 2 ^ 16)
 
 -- LMSW: MP, EM and TS, and PE only where it becomes 1
 abbrev pub with_status_word : Regs → ℕ → Regs

@@ -13,6 +13,7 @@ pub mod InterruptEffects
 pub mod PortEffects
 pub mod TableEffects
 pub mod ControlEffects
+pub mod ProtectionEffects
 pub mod SystemEffects
 pub mod StringEffects
 pub mod FarEffects

@@ -47,11 +47,15 @@ abbrev pub with_sized : Regs → Operand → Size → ℕ → Regs
 with_sized r (Gpr n own) size value = with_reg r n size value
 with_sized r _ size value = r
 
--- MOV from a segment register: a doubleword register is zero extended, and memory gets a word
+-- a word stored: a doubleword register is zero extended, and memory gets a word. Own: Words into doubleword registers.
+abbrev pub storing_word : Insn → Regs → ℕ → Plan After
+storing_word insn r word =
+    if is_plain insn.a then follow (with_sized r insn.a insn.size word)
+    else then_plan (memory_write r insn.a word) (λ _. follow r)
+
+-- MOV from a segment register
 unfoldable pub store_segment_plan : Seg → Insn → Regs → Plan After
-store_segment_plan seg insn r =
-    if is_plain insn.a then follow (with_sized r insn.a insn.size (seg_of r seg).sel)
-    else then_plan (memory_write r insn.a (seg_of r seg).sel) (λ _. follow r)
+store_segment_plan seg insn r = storing_word insn r (seg_of r seg).sel
 
 abbrev pub segment_move : Operand → Operand → Insn → Regs → Plan After
 segment_move (Sreg seg) b insn r = load_segment_plan seg insn r

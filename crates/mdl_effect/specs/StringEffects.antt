@@ -1,5 +1,5 @@
 -- What the string instructions do, one iteration at a time. Manual, chapter 17, under MOVS, CMPS, STOS, LODS,
--- SCAS, INS, OUTS and REP.
+-- SCAS, INS, OUTS and REP, and chapter 8.
 use Rattle.std.specs.Prelude.{ℕ, ◌+◌, ◌-◌, ◌%◌, ◌==◌, ◌&&◌, ◌||◌, not, Bool, true, false, if◌then◌else◌, unwrap_or}
 use Rattle.mdl_state.specs.declared.Size.{Size}
 use Rattle.mdl_state.specs.declared.Size.TheVariants.{B2}
@@ -21,6 +21,7 @@ use Rattle.mdl_insn.specs.declared.mnemonics.Op.TheVariants as ops
 use Rattle.mdl_effect.specs.Operands.{After, PortUse, Reads, Writes, follow, no_such, count_of, counted_down, address_size, DF, with_flags}
 use Rattle.mdl_cpu.specs.Segments.{who_of}
 use Rattle.mdl_cpu.specs.Access.{legal, load_from, store_to}
+use Rattle.mdl_cpu.specs.Virtual.{port_plan}
 
 -- the mnemonics of strings
 abbrev pub runs_string : Op → Bool
@@ -88,7 +89,7 @@ unfoldable pub scan_string_plan : Insn → Regs → ℕ → Plan Regs
 scan_string_plan insn r free = then_plan (read_destination insn r) (λ b.
     Done (past_destination (compared r insn.size (reg_of r 0 insn.size) b free) insn))
 
--- ---- one iteration with a port, which real mode never refuses
+-- ---- one iteration with a port, which has to be permitted first
 
 -- the port is that of DX
 abbrev pub string_port : Regs → ℕ
@@ -100,14 +101,16 @@ follow_with access r = Done (record { regs = r; next = Follow; access = access }
 
 -- the destination is checked and translated, then the port is read, and then what it gives is held
 unfoldable pub input_string_plan : Insn → Regs → Plan After
-input_string_plan insn r = checked (legal r Es (destination_index r insn.wide) insn.size true) (λ at.
+input_string_plan insn r = then_plan (port_plan r (string_port r) insn.size) (λ _.
+    checked (legal r Es (destination_index r insn.wide) insn.size true) (λ at.
     Translate at insn.size (Write (who_of r)) (λ place. Input (string_port r) insn.size (λ value.
-    Hold place insn.size value (follow_with (Reads (string_port r) insn.size) (past_destination r insn)))))
+    Hold place insn.size value (follow_with (Reads (string_port r) insn.size) (past_destination r insn))))))
 
 -- the source is read, and then the port is written
 unfoldable pub output_string_plan : Insn → Regs → Plan After
-output_string_plan insn r = then_plan (read_source insn r) (λ value.
-    follow_with (Writes (string_port r) insn.size value) (past_source r insn))
+output_string_plan insn r = then_plan (port_plan r (string_port r) insn.size) (λ _.
+    then_plan (read_source insn r) (λ value.
+    follow_with (Writes (string_port r) insn.size value) (past_source r insn)))
 
 -- ---- one iteration by its mnemonic
 

@@ -1,31 +1,17 @@
--- Which instructions are those of the system, and what each of them does. Manual, chapters 4, 8, 9, 10, 11, 12
--- and 17.
+-- Which instructions are those of the system, and what each of them does. Manual, chapters 4 to 12, 15 and 17.
 use Rattle.std.specs.Prelude.{ℕ, ◌&&◌, ◌||◌, Bool, true, false}
 use Rattle.mdl_state.specs.declared.Regs.{Regs}
-use Rattle.mdl_state.specs.Attempt.{Plan, Fail}
+use Rattle.mdl_state.specs.Attempt.{Plan}
 use Rattle.mdl_insn.specs.declared.instruction.Insn.{Insn}
 use Rattle.mdl_insn.specs.declared.mnemonics.Op.{Op}
 use Rattle.mdl_insn.specs.declared.mnemonics.Op.TheVariants as ops
-use Rattle.mdl_cpu.specs.Faults.{undefined_opcode}
 use Rattle.mdl_effect.specs.Operands.{After, no_such, value_of}
 use Rattle.mdl_effect.specs.DataEffects.{is_special}
-use Rattle.mdl_effect.specs.InterruptEffects.{interrupt_plan, overflow_plan, push_flags_plan, pop_flags_plan, clear_interrupts_plan, set_interrupts_plan, halt_plan}
+use Rattle.mdl_effect.specs.InterruptEffects.{interrupt_plan, numbered_interrupt_plan, overflow_plan, push_flags_plan, pop_flags_plan, clear_interrupts_plan, set_interrupts_plan, halt_plan}
 use Rattle.mdl_effect.specs.PortEffects.{in_plan, out_plan}
 use Rattle.mdl_effect.specs.TableEffects.{load_gdt_plan, load_idt_plan, store_gdt_plan, store_idt_plan}
+use Rattle.mdl_effect.specs.ProtectionEffects.{is_protected_only, protected_plan}
 use Rattle.mdl_effect.specs.ControlEffects.{special_move_plan, store_status_word_plan, load_status_word_plan, clear_task_switched_plan, wait_plan, escape_plan}
-
--- the mnemonics that only protected mode has: to real mode and V86 they are not defined
-abbrev pub is_protected_only : Op → Bool
-is_protected_only ops.Arpl = true
-is_protected_only ops.Lar = true
-is_protected_only ops.Lsl = true
-is_protected_only ops.Verr = true
-is_protected_only ops.Verw = true
-is_protected_only ops.Sldt = true
-is_protected_only ops.Str = true
-is_protected_only ops.Lldt = true
-is_protected_only ops.Ltr = true
-is_protected_only _ = false
 
 -- the mnemonics of the system that every mode has
 abbrev pub is_system : Op → Bool
@@ -61,13 +47,9 @@ is_special_move insn = is_mov insn.op && (is_special insn.a || is_special insn.b
 abbrev pub runs_system : Insn → Bool
 runs_system insn = is_system insn.op || is_protected_only insn.op || is_special_move insn
 
--- To real mode and V86 they are not defined; protected mode is not built. Own: Steps that are not built.
-abbrev pub protected_plan : Regs → Plan After
-protected_plan r = Fail undefined_opcode
-
 -- what they do; `back` is the EIP behind the instruction
 abbrev pub system_by : Op → Insn → Regs → Plan After
-system_by ops.Int insn r = interrupt_plan (value_of r insn.a) r
+system_by ops.Int insn r = numbered_interrupt_plan (value_of r insn.a) r
 system_by ops.Int3 insn r = interrupt_plan 3 r
 system_by ops.Into insn r = overflow_plan r
 system_by ops.Pushf insn r = push_flags_plan insn r
@@ -87,15 +69,15 @@ system_by ops.Clts insn r = clear_task_switched_plan r
 system_by ops.Wait insn r = wait_plan r
 system_by ops.Esc insn r = escape_plan r
 system_by ops.Mov insn r = special_move_plan insn r
-system_by ops.Arpl insn r = protected_plan r
-system_by ops.Lar insn r = protected_plan r
-system_by ops.Lsl insn r = protected_plan r
-system_by ops.Verr insn r = protected_plan r
-system_by ops.Verw insn r = protected_plan r
-system_by ops.Sldt insn r = protected_plan r
-system_by ops.Str insn r = protected_plan r
-system_by ops.Lldt insn r = protected_plan r
-system_by ops.Ltr insn r = protected_plan r
+system_by ops.Arpl insn r = protected_plan ops.Arpl insn r
+system_by ops.Lar insn r = protected_plan ops.Lar insn r
+system_by ops.Lsl insn r = protected_plan ops.Lsl insn r
+system_by ops.Verr insn r = protected_plan ops.Verr insn r
+system_by ops.Verw insn r = protected_plan ops.Verw insn r
+system_by ops.Sldt insn r = protected_plan ops.Sldt insn r
+system_by ops.Str insn r = protected_plan ops.Str insn r
+system_by ops.Lldt insn r = protected_plan ops.Lldt insn r
+system_by ops.Ltr insn r = protected_plan ops.Ltr insn r
 system_by _ insn r = no_such
 
 unfoldable pub system_effect : Insn → Regs → ℕ → Plan After

@@ -13,7 +13,8 @@ use Rattle.mdl_effect.specs.DataEffects.{is_data, is_address, is_special, is_seg
 use Rattle.mdl_effect.specs.FlowEffects.{is_flow, is_pop, runs_flow, flow_effect}
 use Rattle.mdl_effect.specs.StringEffects.{runs_string, string_plan}
 use Rattle.mdl_effect.specs.FarEffects.{is_far, runs_far, far_effect}
-use Rattle.mdl_effect.specs.SystemEffects.{is_system, is_protected_only, is_mov, is_special_move, runs_system, system_effect}
+use Rattle.mdl_effect.specs.ProtectionEffects.{is_protected_only}
+use Rattle.mdl_effect.specs.SystemEffects.{is_system, is_mov, is_special_move, runs_system, system_effect}
 use Rattle.mdl_step.specs.Effects.{effect}
 
 -- what an instruction is of: none of the data mnemonics, none of the address ones, no POP of a segment register
