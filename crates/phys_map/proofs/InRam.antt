@@ -1,5 +1,5 @@
 -- A number in RAM is that of RAM's list.
-use Rattle.std.specs.Prelude.{ℕ, ◌≡◌, ◌<◌, ◌≤◌, ◌+◌, ◌/◌, ◌%◌, true, refl, List, length, slice_index, slice_set}
+use Rattle.std.specs.Prelude.{ℕ, ◌≡◌, ◌<◌, ◌≤◌, ◌+◌, ◌/◌, ◌%◌, Bool, true, false, refl, List, length, slice_index, slice_set}
 use Rattle.std.proofs.Common.{arith, ap, sym, subst, ◌∙◌}
 use Rattle.std.proofs.lemmas.List.{length-set}
 use Rattle.mdl_state.specs.declared.Size.{Size}
@@ -118,3 +118,20 @@ stored_ram p at size value out ram sound page o h r =
 
 pub stored_sound : (p : Physical) (at : ℕ) (size : Size) (value : ℕ) → IsSound p → InPage at size → is_ram (length p.ram) (gated p.a20 at) ≡ true → IsSound (record p { ram = with_bytes p.ram (gated p.a20 at) (little_bytes (bytes_of size) value) })
 stored_sound p at size value sound page h = (stored_became p at size value sound page h).sound
+
+-- below the end of conventional memory stands RAM, whatever the line A20 is
+pub conventional : (p : Physical) (at : ℕ) → at < 0xA0000 → byte_at p at ≡ slice_index p.ram at
+conventional p at h =
+    let same : gated p.a20 at ≡ at = ungated p.a20 at h in
+    let there : is_ram (length p.ram) (gated p.a20 at) ≡ true = rw same (low (length p.ram) at h) in
+    first_ram p at there ∙ ap (slice_index p.ram) same
+  where
+    ungated : (a20 : Bool) (at : ℕ) → at < 0xA0000 → gated a20 at ≡ at
+    ungated true at h = refl
+    ungated false at h = omega arith
+
+    low : (size at : ℕ) → at < 0xA0000 → is_ram size at ≡ true
+    low size at h = grind arith
+
+pub some_ram : (p : Physical) → IsSound p → 0xA0000 ≤ length p.ram
+some_ram p sound = let least : 0x100000 ≤ length p.ram = sound.ram.least in omega arith
