@@ -32,6 +32,9 @@ pub enum Act {
     Verw,
     Arpl,
     Iopl,
+    Tr,
+    Sensitive,
+    Port,
     /// None of these.
     Nothing,
 }
@@ -51,6 +54,8 @@ pub enum Answer {
     Zero(bool),
     /// A byte.
     Byte(u32),
+    /// It is permitted.
+    Permitted,
 }
 
 /// An act and its numbers; zeros where it has fewer.
@@ -63,30 +68,33 @@ pub struct Line {
 #[rattlefmt::skip]
 fn act_of(word: &str) -> Act {
     match word {
-        "new"    => Act::New,
-        "real"   => Act::Real,
-        "v86"    => Act::V86,
-        "level"  => Act::Level,
-        "gdt"    => Act::Gdt,
-        "ldt"    => Act::Ldt,
-        "paging" => Act::Paging,
-        "desc"   => Act::Desc,
-        "put"    => Act::Put,
-        "byte"   => Act::Byte,
-        "es"     => Act::Es,
-        "ss"     => Act::Ss,
-        "ds"     => Act::Ds,
-        "fs"     => Act::Fs,
-        "gs"     => Act::Gs,
-        "lldt"   => Act::Lldt,
-        "ltr"    => Act::Ltr,
-        "lar"    => Act::Lar,
-        "lsl"    => Act::Lsl,
-        "verr"   => Act::Verr,
-        "verw"   => Act::Verw,
-        "arpl"   => Act::Arpl,
-        "iopl"   => Act::Iopl,
-        _        => Act::Nothing,
+        "new"       => Act::New,
+        "real"      => Act::Real,
+        "v86"       => Act::V86,
+        "level"     => Act::Level,
+        "gdt"       => Act::Gdt,
+        "ldt"       => Act::Ldt,
+        "paging"    => Act::Paging,
+        "desc"      => Act::Desc,
+        "put"       => Act::Put,
+        "byte"      => Act::Byte,
+        "es"        => Act::Es,
+        "ss"        => Act::Ss,
+        "ds"        => Act::Ds,
+        "fs"        => Act::Fs,
+        "gs"        => Act::Gs,
+        "lldt"      => Act::Lldt,
+        "ltr"       => Act::Ltr,
+        "lar"       => Act::Lar,
+        "lsl"       => Act::Lsl,
+        "verr"      => Act::Verr,
+        "verw"      => Act::Verw,
+        "arpl"      => Act::Arpl,
+        "iopl"      => Act::Iopl,
+        "tr"        => Act::Tr,
+        "sensitive" => Act::Sensitive,
+        "port"      => Act::Port,
+        _           => Act::Nothing,
     }
 }
 
@@ -128,6 +136,7 @@ pub fn print_answer(rt: &impl Print, answer: Answer) -> io::Result<()> {
         Answer::Zero(true) => print!(rt; " = zf 1")?,
         Answer::Zero(false) => print!(rt; " = zf 0")?,
         Answer::Byte(byte) => print!(rt; " = {byte:x}")?,
+        Answer::Permitted => print!(rt; " = permitted")?,
     }
     Ok(())
 }

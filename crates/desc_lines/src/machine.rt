@@ -9,6 +9,7 @@ use privilege_checks::{arpl, iopl_allows, lar, lsl, verr, verw};
 use seg_unit::segment;
 use std::alloc::{AllocError, Global};
 use tlb::Tlb;
+use v86_mode::{port_allowed, sensitive};
 
 /// PE of CR0.
 const PROTECTION: u32 = 0x1;
@@ -73,7 +74,11 @@ fn word(number: u32) -> u16 {
 
 /// The size of a number of bytes.
 fn size_of(bytes: u32) -> Size {
-    if bytes == 4 { Size::B4 } else { Size::B2 }
+    match bytes {
+        1 => Size::B1,
+        4 => Size::B4,
+        _ => Size::B2,
+    }
 }
 
 /// Memory and registers.
@@ -192,11 +197,31 @@ impl Machine {
 
     /// Whether the level may use ports under these flags.
     fn may_use_ports(&self, eflags: u32) -> bool {
-        let regs = Regs {
+        iopl_allows(&self.under(eflags))
+    }
+
+    /// The registers with these flags.
+    fn under(&self, eflags: u32) -> Regs {
+        Regs {
             eflags,
             ..self.regs
+        }
+    }
+
+    /// A sensitive instruction, and an access to a port, under these flags.
+    fn ask(&mut self, line: &Line) -> Answer {
+        let [first, second, third] = line.numbers;
+        let permitted = match line.act {
+            Act::Sensitive => sensitive(&self.under(first)),
+            _ => {
+                let regs = self.under(third);
+                port_allowed(&regs, &mut self.memory, word(first), size_of(second))
+            }
         };
-        iopl_allows(&regs)
+        match permitted {
+            Ok(()) => Answer::Permitted,
+            Err(fault) => Answer::Refused(fault),
+        }
     }
 
     /// Changes the machine as a line says.
@@ -214,6 +239,11 @@ impl Machine {
                 self.regs.ldtr.base = first;
                 self.regs.ldtr.limit = second;
                 self.regs.ldtr.rights = word(third);
+            }
+            Act::Tr => {
+                self.regs.tr.base = first;
+                self.regs.tr.limit = second;
+                self.regs.tr.rights = word(third);
             }
             Act::Paging => self.set_paging(first),
             Act::Desc => self.put_descriptor(word(first), second, third),
@@ -239,6 +269,7 @@ impl Machine {
             Act::Verr | Act::Verw => self.verify(line.act, word(first)),
             Act::Arpl => Answer::Number(arpl(word(first), word(second)).map(|sel| sel as u32)),
             Act::Iopl => Answer::Zero(self.may_use_ports(first)),
+            Act::Sensitive | Act::Port => self.ask(line),
             _ => self.change(line),
         }
     }
