@@ -31,7 +31,7 @@ const INTERRUPT: u32 = 0x200;
 const RESUME: u32 = 0x1_0000;
 
 /// RETF. So many bytes more are taken off the stack behind EIP and CS.
-#[tactic(auto, using(mdl_state::specs::Rules::attempts), unfolding(mdl_cpu::specs::Returns::return_far_plan))]
+#[tactic(auto, using(mdl_state::specs::Rules::attempts, mdl_cpu::proofs::ModeLaws::real_return))]
 pub fn return_far<L: Linear>(
     regs: &mut Regs,
     lin: &mut L,
@@ -73,7 +73,7 @@ fn returned_flags(regs: &Regs, size: Size) -> u32
 }
 
 /// IRET. EIP, CS and EFLAGS are popped before the new EIP is tested.
-#[tactic(auto, using(mdl_state::specs::Rules::attempts), unfolding(mdl_cpu::specs::Returns::interrupt_return_plan))]
+#[tactic(auto, using(mdl_state::specs::Rules::attempts, mdl_cpu::proofs::ModeLaws::real_interrupt_return))]
 pub fn interrupt_return<L: Linear>(
     regs: &mut Regs,
     lin: &mut L,
