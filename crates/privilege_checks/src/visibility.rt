@@ -1,6 +1,8 @@
 //! LAR, LSL, VERR and VERW. An answer of nothing and of false stands for ZF 0.
 
-ghost use Rattle.std.specs.Prelude.{◌≡◌};
+ghost use Rattle.std.specs.Prelude.{◌≡◌, ◌≢◌, ◌<◌, IfOk, IfSome};
+ghost use Rattle.mdl_state.specs.declared.Size.TheVariants.{B1};
+ghost use Rattle.mdl_state.specs.Bytes.{bound_of};
 ghost use Rattle.mdl_state.specs.Serving.{by_pick, outcome};
 ghost use Rattle.mdl_state.specs.Accesses.{Keeps};
 ghost use Rattle.mdl_state.specs.Attempt.{tried};
@@ -113,7 +115,8 @@ fn visible<L: Linear>(
 
 /// What LAR shows of the rights.
 fn access_rights(desc: &Desc, size: Size) -> u32
-    ensures { result ≡ access_rights size desc.now }
+    ensures value { result ≡ access_rights size desc.now }
+    ensures bound { size ≢ B1 → result < bound_of size }
 {
     match size {
         Size::B4 => desc.high & SHOWN,
@@ -125,6 +128,7 @@ fn access_rights(desc: &Desc, size: Size) -> u32
 #[tactic(auto, using(mdl_state::specs::Rules::attempts), unfolding(mdl_cpu::specs::Visibility::lar))]
 pub fn lar<L: Linear>(regs: &Regs, lin: &mut L, sel: u16, size: Size) -> Result<Option<u32>, Fault>
     ensures run { (outcome result, L.seen lin.new) ≡ tried (by_pick L.pick) 0 (lar regs.now sel size) (L.seen lin.old) }
+    ensures bound { size ≢ B1 → IfOk result (λ shown. IfSome shown (λ value. value < bound_of size)) }
     ensures keeps { Keeps (L.seen lin.old) (L.seen lin.new) }
     ensures held { (L.seen lin.new).held ≡ (L.seen lin.old).held }
 {
@@ -138,6 +142,7 @@ pub fn lar<L: Linear>(regs: &Regs, lin: &mut L, sel: u16, size: Size) -> Result<
 #[tactic(auto, using(mdl_state::specs::Rules::attempts), unfolding(mdl_cpu::specs::Visibility::lsl))]
 pub fn lsl<L: Linear>(regs: &Regs, lin: &mut L, sel: u16, size: Size) -> Result<Option<u32>, Fault>
     ensures run { (outcome result, L.seen lin.new) ≡ tried (by_pick L.pick) 0 (lsl regs.now sel size) (L.seen lin.old) }
+    ensures bound { IfOk result (λ shown. IfSome shown (λ value. value < bound_of size)) }
     ensures keeps { Keeps (L.seen lin.old) (L.seen lin.new) }
     ensures held { (L.seen lin.new).held ≡ (L.seen lin.old).held }
 {
