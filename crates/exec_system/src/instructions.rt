@@ -8,7 +8,8 @@ ghost use Rattle.mdl_state.specs.Attempt.{tried};
 ghost use Rattle.mdl_cpu.specs.Addresses.{HasAddress};
 ghost use Rattle.mdl_cpu.specs.Steady.{IsSound};
 ghost use Rattle.mdl_effect.specs.DataEffects.{is_special};
-ghost use Rattle.mdl_effect.specs.SystemEffects.{is_system, is_protected_only, is_mov, runs_system, system_effect};
+ghost use Rattle.mdl_effect.specs.ProtectionEffects.{is_protected_only};
+ghost use Rattle.mdl_effect.specs.SystemEffects.{is_system, is_mov, runs_system, system_effect};
 ghost use Rattle.mdl_effect.specs.Operands.{PortUse};
 ghost use Rattle.mdl_effect.specs.Ports.{Accesses};
 ghost use Rattle.mdl_effect.specs.Forms.{IsFormed};
@@ -20,8 +21,9 @@ ghost use Rattle.exec_system.specs.Board.{uses_port, writes_port};
 use crate::control::move_special;
 use crate::coprocessor::{escape, wait};
 use crate::flags::{pop_flags, push_flags};
-use crate::interrupts::{BREAKPOINT, clear_interrupts, halt, overflow, set_interrupts, vector};
+use crate::interrupts::{BREAKPOINT, clear_interrupts, halt, interrupt, overflow, set_interrupts};
 use crate::ports::{input, output};
+use crate::protection::run_protected;
 use crate::status_word::{clear_task_switched, load_status_word, store_status_word};
 use crate::tables::{load_gdt, load_idt, store_gdt, store_idt};
 use mdl_insn::{Insn, Op, Operand};
@@ -81,11 +83,12 @@ pub fn runs_system(insn: &Insn) -> bool
         || is_mov(insn.op) && (is_special(&insn.a) || is_special(&insn.b))
 }
 
-/// One that uses no port. What only protected mode has is refused.
+/// One that every mode has, and that uses no port.
 #[rattlefmt::skip]
 #[tactic(auto, unfolding(mdl_effect::specs::SystemEffects::system_effect, mdl_effect::specs::InterruptEffects::interrupt_plan))]
 fn run_inside<L: Linear>(regs: &mut Regs, lin: &mut L, insn: &Insn) -> Result<Next, Fault>
     requires inside { uses_port insn.now.op ≡ false }
+    requires every { is_protected_only insn.now.op ≡ false }
     requires formed { IsFormed insn.now }
     requires address { HasAddress insn.now.a }
     requires room { HasRoom (L.seen lin.old) 6 }
@@ -95,7 +98,7 @@ fn run_inside<L: Linear>(regs: &mut Regs, lin: &mut L, insn: &Insn) -> Result<Ne
     ensures keeps { Keeps (L.seen lin.old) (L.seen lin.new) }
 {
     match insn.op {
-        Op::Int => Ok(Next::Soft(vector(&insn.a))),
+        Op::Int => interrupt(regs, &insn.a),
         Op::Int3 => Ok(Next::Soft(BREAKPOINT)),
         Op::Into => overflow(regs),
         Op::Pushf => push_flags(regs, lin, insn),
@@ -142,15 +145,12 @@ pub fn run<L: Linear, P: Ports>(
     ensures a20 { writes_port insn.now.op ≡ false → P.gate ports.new ≡ P.gate ports.old }
     ensures reset { writes_port insn.now.op ≡ false → P.asks ports.new ≡ P.asks ports.old }
 {
+    if is_protected_only(insn.op) {
+        return run_protected(regs, lin, insn);
+    }
     match insn.op {
-        Op::InPort => {
-            input(regs, ports, insn);
-            Ok(Next::Follow)
-        }
-        Op::OutPort => {
-            output(regs, ports, insn);
-            Ok(Next::Follow)
-        }
+        Op::InPort => input(regs, lin, ports, insn),
+        Op::OutPort => output(regs, lin, ports, insn),
         _ => run_inside(regs, lin, insn),
     }
 }

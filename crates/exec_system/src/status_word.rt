@@ -1,66 +1,28 @@
 //! The machine status word, the low word of CR0: SMSW, LMSW and CLTS.
 
-ghost use Rattle.std.specs.Prelude.{◌≡◌, ◌≢◌, ◌<◌, ◌^◌, ℕ, true, OnErr};
+ghost use Rattle.std.specs.Prelude.{◌≡◌, ◌≢◌, true, OnErr};
 ghost use Rattle.mdl_state.specs.declared.Size.TheVariants.{B1, B2};
 ghost use Rattle.mdl_state.specs.declared.Regs.{Regs};
 ghost use Rattle.mdl_state.specs.State.{Mem};
-ghost use Rattle.mdl_state.specs.Serving.{Serve, by_pick, outcome, on};
+ghost use Rattle.mdl_state.specs.Serving.{Serve, by_pick};
 ghost use Rattle.mdl_state.specs.Accesses.{Keeps, HasRoom};
-ghost use Rattle.mdl_state.specs.Attempt.{Plan, tried};
+ghost use Rattle.mdl_state.specs.Attempt.{tried};
 ghost use Rattle.mdl_cpu.specs.Addresses.{HasAddress};
-ghost use Rattle.mdl_effect.specs.Operands.{After, reading, memory_write};
-ghost use Rattle.mdl_effect.specs.Moves.{with_sized};
-ghost use Rattle.mdl_effect.specs.Kinds.{is_place, is_memory};
+ghost use Rattle.mdl_effect.specs.Kinds.{is_place};
 ghost use Rattle.mdl_effect.specs.Forms.{IsOf};
 ghost use Rattle.mdl_effect.specs.ControlEffects.{with_status_word, store_status_word_plan, load_status_word_plan, clear_task_switched_plan};
 ghost use Rattle.operands.specs.Whole.{ran};
 
 use crate::control::{EMULATION, MONITOR, PROTECTION, TASK_SWITCHED, with_bit_of};
-use crate::registers::{set_reg, value};
-use mdl_insn::{Insn, Operand};
+use crate::words::{read_word, store_word};
+use mdl_insn::Insn;
 use mdl_num::{bit, with_bit};
-use mdl_state::{Fault, Next, Regs, Size};
+use mdl_state::{Fault, Next, Regs};
 use mem_iface::Linear;
-use operands::{general_protection, is_plain};
-use seg_unit::{address, load, store};
-
-/// A register set in the size of the instruction.
-fn set_sized(regs: &mut Regs, operand: &Operand, size: Size, word: u32)
-    requires size { size ≢ B1 }
-    requires form { IsOf B2 operand.now }
-    requires word { word < 2 ^ 16 }
-    ensures { regs.new ≡ with_sized regs.old operand.now size word }
-{
-    if let Operand::Gpr(n, _) = operand {
-        set_reg(regs, *n, size, word);
-    }
-}
-
-/// A word put into memory.
-#[tactic(auto, unfolding(mdl_effect::specs::Operands::memory_write))]
-fn write_word<L: Linear>(
-    regs: &Regs,
-    lin: &mut L,
-    operand: &Operand,
-    word: u32,
-) -> Result<(), Fault>
-    requires memory { is_memory operand.now ≡ true }
-    requires form { IsOf B2 operand.now }
-    requires address { HasAddress operand.now }
-    requires word { word < 2 ^ 16 }
-    requires room { HasRoom (L.seen lin.old) 6 }
-    ensures run { (outcome result, L.seen lin.new)
-        ≡ tried (by_pick L.pick) 0 (memory_write regs.now operand.now word) (L.seen lin.old) }
-    ensures keeps { Keeps (L.seen lin.old) (L.seen lin.new) }
-{
-    match operand {
-        Operand::At(mem, _) => store(regs, lin, mem.seg, address(regs, mem), Size::B2, word),
-        _ => unreachable!(),
-    }
-}
+use operands::general_protection;
 
 /// SMSW.
-#[tactic(auto, using(mdl_state::specs::Rules::attempts, operands::proofs::OperandKinds::kinds), unfolding(mdl_effect::specs::ControlEffects::store_status_word_plan))]
+#[tactic(auto, unfolding(mdl_effect::specs::ControlEffects::store_status_word_plan))]
 pub(crate) fn store_status_word<L: Linear>(
     regs: &mut Regs,
     lin: &mut L,
@@ -77,29 +39,7 @@ pub(crate) fn store_status_word<L: Linear>(
     ensures keeps { Keeps (L.seen lin.old) (L.seen lin.new) }
 {
     let word = regs.cr0 % 0x1_0000;
-    if is_plain(&insn.a) {
-        set_sized(regs, &insn.a, insn.size, word);
-        return Ok(Next::Follow);
-    }
-    write_word(regs, lin, &insn.a, word)?;
-    Ok(Next::Follow)
-}
-
-/// A word of a register or of memory.
-#[tactic(auto, using(mdl_state::specs::Rules::attempts), unfolding(mdl_effect::specs::Operands::memory_read))]
-fn read_word<L: Linear>(regs: &Regs, lin: &mut L, operand: &Operand) -> Result<u32, Fault>
-    requires place { is_place operand.now ≡ true }
-    requires form { IsOf B2 operand.now }
-    requires address { HasAddress operand.now }
-    ensures run { (k : ℕ → Plan After) → tried (by_pick L.pick) 0 (reading regs.now operand.now k) (L.seen lin.old)
-        ≡ on (outcome result, L.seen lin.new) (λ value m. tried (by_pick L.pick) 0 (k value) m) }
-    ensures keeps { Keeps (L.seen lin.old) (L.seen lin.new) }
-{
-    match operand {
-        Operand::At(mem, _) => load(regs, lin, mem.seg, address(regs, mem), Size::B2),
-        Operand::Gpr(_, _) => Ok(value(regs, operand, Size::B2)),
-        _ => unreachable!(),
-    }
+    store_word(regs, lin, insn, word)
 }
 
 /// CR0 with the bits of a machine status word. PE is never cleared.

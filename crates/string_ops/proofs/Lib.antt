@@ -1,2 +1,3 @@
+pub mod Permissions
 pub mod Inputs
 pub mod Counts

@@ -1,4 +1,4 @@
-//! One iteration of INS and of OUTS, by the port that DX names.
+//! One iteration of INS and of OUTS, by the port that DX names, where that is permitted.
 
 ghost use Rattle.std.specs.Prelude.{◌≡◌, ◌<◌, ◌^◌, ℕ, true, IfOk, IfErr, OnErr};
 ghost use Rattle.mdl_state.specs.declared.Place.{Place};
@@ -22,6 +22,7 @@ use mdl_state::{Access, Fault, Next, Place, Regs, Seg, Size};
 use mem_iface::{Linear, Ports};
 use operands::{DATA, reg};
 use seg_unit::{check, who};
+use v86_mode::port_allowed;
 
 /// The port, in DX.
 fn string_port(regs: &Regs) -> u16
@@ -49,7 +50,7 @@ fn open_destination<L: Linear>(regs: &Regs, lin: &mut L, insn: &Insn) -> Result<
     Ok(place)
 }
 
-/// INS: the port is read where the destination has passed, and what it gives is held there.
+/// INS: the port is read where it is permitted and the destination has passed, and what it gives is held there.
 pub(crate) fn input_string<L: Linear, P: Ports>(
     regs: &mut Regs,
     lin: &mut L,
@@ -64,14 +65,16 @@ pub(crate) fn input_string<L: Linear, P: Ports>(
     ensures unchanged { OnErr result ((regs.new ≡ regs.old) × (ports.new ≡ ports.old)) }
     ensures keeps { Keeps (L.seen lin.old) (L.seen lin.new) }
 {
+    let port = string_port(regs);
+    port_allowed(regs, lin, port, insn.size)?;
     let place = open_destination(regs, lin, insn)?;
-    let value = ports.input(string_port(regs), insn.size);
+    let value = ports.input(port, insn.size);
     lin.hold(place, insn.size, value);
     pass_destination(regs, insn);
     Ok(Next::Follow)
 }
 
-/// OUTS: the port is written where the source has passed.
+/// OUTS: the port is written where it is permitted and the source has passed.
 pub(crate) fn output_string<L: Linear, P: Ports>(
     regs: &mut Regs,
     lin: &mut L,
@@ -85,8 +88,10 @@ pub(crate) fn output_string<L: Linear, P: Ports>(
     ensures unchanged { OnErr result ((regs.new ≡ regs.old) × (ports.new ≡ ports.old)) }
     ensures keeps { Keeps (L.seen lin.old) (L.seen lin.new) }
 {
+    let port = string_port(regs);
+    port_allowed(regs, lin, port, insn.size)?;
     let value = read_source(regs, lin, insn)?;
-    ports.output(string_port(regs), insn.size, value);
+    ports.output(port, insn.size, value);
     pass_source(regs, insn);
     Ok(Next::Follow)
 }
