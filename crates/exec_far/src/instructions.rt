@@ -13,10 +13,11 @@ ghost use Rattle.mdl_cpu.specs.declared.Outcome.TheVariants.{Done};
 ghost use Rattle.mdl_state.specs.declared.Next.TheVariants.{Landed};
 ghost use Rattle.mdl_state.specs.declared.Regs.{Regs as Registers};
 ghost use Rattle.mdl_effect.specs.Operands.{IsOrdinary, is_nothing, value_of};
-ghost use Rattle.mdl_effect.specs.FarEffects.{is_far, runs_far, far_call_plan, far_jump_plan, far_return_plan, iret_plan, far_effect};
+ghost use Rattle.mdl_effect.specs.FarEffects.{is_far, runs_far, names_task, far_call_plan, far_jump_plan, far_return_plan, iret_plan, far_transfer, far_effect};
 ghost use Rattle.mdl_effect.specs.Kinds.{is_number, is_far_target};
 ghost use Rattle.mdl_effect.specs.Forms.{IsOf, IsFormed};
 ghost use Rattle.operands.specs.Whole.{ran};
+ghost use Rattle.exec_far.specs.Transfers.{far_transferred};
 
 use crate::pointers::target;
 use gate_transfer::{Outcome, call_far, interrupt_return, jump_far, return_far};
@@ -40,49 +41,62 @@ pub fn runs_far(insn: &Insn) -> bool
     is_far(insn.op)
 }
 
+/// What the transfer of an instruction comes to, and whether its own selector names the task that it
+/// leads to.
+#[derive(Clone, Copy)]
+pub(crate) struct Far {
+    pub(crate) outcome: Outcome,
+    pub(crate) direct: bool,
+}
+
+/// Whether a selector names the task that a transfer leads to.
+fn names_task(selector: u16, outcome: Outcome) -> bool
+    ensures { result ≡ names_task selector outcome }
+{
+    match outcome {
+        Outcome::Done => false,
+        Outcome::Switch(task) => task == selector,
+    }
+}
+
 /// CALL to a selector and an offset.
 #[tactic(auto, using(mdl_state::specs::Rules::attempts), unfolding(mdl_effect::specs::FarEffects::far_call_plan))]
-fn call<L: Linear>(regs: &mut Regs, lin: &mut L, insn: &Insn, back: u32) -> Result<Next, Fault>
+fn call<L: Linear>(regs: &mut Regs, lin: &mut L, insn: &Insn, back: u32) -> Result<Far, Fault>
     requires mode { has_protection regs.old ≡ false }
     requires size { insn.now.size ≢ B1 }
     requires target { is_far_target insn.now.a ≡ true }
     requires address { HasAddress insn.now.a }
     requires held { (L.seen lin.old).held ≡ [] }
-    ensures run { (ran result regs.new, L.seen lin.new)
+    ensures run { (far_transferred result regs.new, L.seen lin.new)
         ≡ tried (by_pick L.pick) 0 (far_call_plan insn.now regs.old back) (L.seen lin.old) }
+    ensures made { IfOk result (λ far. far.outcome ≡ Done) }
     ensures unchanged { OnErr result (regs.new ≡ regs.old) }
     ensures keeps { Keeps (L.seen lin.old) (L.seen lin.new) }
 {
     let to = target(regs, lin, insn)?;
     let outcome = call_far(regs, lin, to.selector, to.offset, insn.size, back)?;
-    Ok(next_of(outcome))
-}
-
-/// What follows a transfer that is made.
-fn next_of(outcome: Outcome) -> Next
-    requires made { outcome ≡ Done }
-    ensures { result ≡ Landed }
-{
-    match outcome {
-        Outcome::Done => Next::Landed,
-        Outcome::Switch(_) => unreachable!(),
-    }
+    let direct = names_task(to.selector, outcome);
+    Ok(Far { outcome, direct })
 }
 
 /// JMP to a selector and an offset.
 #[tactic(auto, using(mdl_state::specs::Rules::attempts), unfolding(mdl_effect::specs::FarEffects::far_jump_plan))]
-fn jump<L: Linear>(regs: &mut Regs, lin: &mut L, insn: &Insn) -> Result<Next, Fault>
+fn jump<L: Linear>(regs: &mut Regs, lin: &mut L, insn: &Insn) -> Result<Far, Fault>
+    requires size { insn.now.size ≢ B1 }
     requires mode { has_protection regs.old ≡ false }
+    requires held { (L.seen lin.old).held ≡ [] }
     requires target { is_far_target insn.now.a ≡ true }
     requires address { HasAddress insn.now.a }
-    ensures run { (ran result regs.new, L.seen lin.new)
+    ensures run { (far_transferred result regs.new, L.seen lin.new)
         ≡ tried (by_pick L.pick) 0 (far_jump_plan insn.now regs.old) (L.seen lin.old) }
+    ensures made { IfOk result (λ far. far.outcome ≡ Done) }
     ensures unchanged { OnErr result (regs.new ≡ regs.old) }
     ensures keeps { Keeps (L.seen lin.old) (L.seen lin.new) }
 {
     let to = target(regs, lin, insn)?;
     let outcome = jump_far(regs, lin, to.selector, to.offset, insn.size)?;
-    Ok(next_of(outcome))
+    let direct = names_task(to.selector, outcome);
+    Ok(Far { outcome, direct })
 }
 
 /// How many bytes more RETF takes off the stack.
@@ -99,38 +113,80 @@ fn dropped(operand: &Operand) -> u16
 
 /// RETF.
 #[tactic(auto, using(mdl_state::specs::Rules::attempts), unfolding(mdl_effect::specs::FarEffects::far_return_plan))]
-fn return_to<L: Linear>(regs: &mut Regs, lin: &mut L, insn: &Insn) -> Result<Next, Fault>
+fn return_to<L: Linear>(regs: &mut Regs, lin: &mut L, insn: &Insn) -> Result<Far, Fault>
+    requires size { insn.now.size ≢ B1 }
     requires mode { has_protection regs.old ≡ false }
+    requires held { (L.seen lin.old).held ≡ [] }
     requires form { IsOf B2 insn.now.a }
     requires immediate { (is_number insn.now.a || is_nothing insn.now.a) ≡ true }
-    ensures run { (ran result regs.new, L.seen lin.new)
+    ensures run { (far_transferred result regs.new, L.seen lin.new)
         ≡ tried (by_pick L.pick) 0 (far_return_plan insn.now regs.old) (L.seen lin.old) }
+    ensures made { IfOk result (λ far. far.outcome ≡ Done) }
     ensures unchanged { OnErr result (regs.new ≡ regs.old) }
     ensures keeps { Keeps (L.seen lin.old) (L.seen lin.new) }
 {
     return_far(regs, lin, insn.size, dropped(&insn.a))?;
-    Ok(Next::Landed)
+    Ok(Far {
+        outcome: Outcome::Done,
+        direct: false,
+    })
 }
 
 /// IRET.
 #[tactic(auto, using(mdl_state::specs::Rules::attempts), unfolding(mdl_effect::specs::FarEffects::iret_plan))]
-fn return_from_interrupt<L: Linear>(
-    regs: &mut Regs,
-    lin: &mut L,
-    insn: &Insn,
-) -> Result<Next, Fault>
+fn return_from_interrupt<L: Linear>(regs: &mut Regs, lin: &mut L, insn: &Insn) -> Result<Far, Fault>
+    requires size { insn.now.size ≢ B1 }
     requires mode { has_protection regs.old ≡ false }
-    ensures run { (ran result regs.new, L.seen lin.new)
+    requires held { (L.seen lin.old).held ≡ [] }
+    ensures run { (far_transferred result regs.new, L.seen lin.new)
         ≡ tried (by_pick L.pick) 0 (iret_plan insn.now regs.old) (L.seen lin.old) }
+    ensures made { IfOk result (λ far. far.outcome ≡ Done) }
     ensures unchanged { OnErr result (regs.new ≡ regs.old) }
     ensures keeps { Keeps (L.seen lin.old) (L.seen lin.new) }
 {
     let outcome = interrupt_return(regs, lin, insn.size)?;
-    Ok(next_of(outcome))
+    Ok(Far {
+        outcome,
+        direct: false,
+    })
 }
 
-/// An instruction whose operands have the form of its mnemonic.
-#[tactic(auto, unfolding(mdl_effect::specs::FarEffects::far_effect))]
+/// The transfer of an instruction whose operands have the form of its mnemonic.
+#[tactic(auto, unfolding(mdl_effect::specs::FarEffects::far_transfer))]
+fn transfer<L: Linear>(regs: &mut Regs, lin: &mut L, insn: &Insn, back: u32) -> Result<Far, Fault>
+    requires runs { runs_far insn.now ≡ true }
+    requires formed { IsFormed insn.now }
+    requires address { HasAddress insn.now.a }
+    requires mode { has_protection regs.old ≡ false }
+    requires held { (L.seen lin.old).held ≡ [] }
+    ensures run { (far_transferred result regs.new, L.seen lin.new)
+        ≡ tried (by_pick L.pick) 0 (far_transfer insn.now regs.old back) (L.seen lin.old) }
+    ensures made { IfOk result (λ far. far.outcome ≡ Done) }
+    ensures unchanged { OnErr result (regs.new ≡ regs.old) }
+    ensures keeps { Keeps (L.seen lin.old) (L.seen lin.new) }
+{
+    match insn.op {
+        Op::Callf => call(regs, lin, insn, back),
+        Op::Jmpf => jump(regs, lin, insn),
+        Op::Retf => return_to(regs, lin, insn),
+        Op::Iret => return_from_interrupt(regs, lin, insn),
+        _ => unreachable!(),
+    }
+}
+
+/// What follows a transfer that is made.
+fn next_of(outcome: Outcome) -> Next
+    requires made { outcome ≡ Done }
+    ensures { result ≡ Landed }
+{
+    match outcome {
+        Outcome::Done => Next::Landed,
+        Outcome::Switch(_) => unreachable!(),
+    }
+}
+
+/// The whole instruction.
+#[tactic(auto, using(mdl_state::specs::Rules::attempts), unfolding(mdl_effect::specs::FarEffects::far_effect))]
 fn run_formed<L: Linear>(
     regs: &mut Regs,
     lin: &mut L,
@@ -147,13 +203,8 @@ fn run_formed<L: Linear>(
     ensures unchanged { OnErr result (regs.new ≡ regs.old) }
     ensures keeps { Keeps (L.seen lin.old) (L.seen lin.new) }
 {
-    match insn.op {
-        Op::Callf => call(regs, lin, insn, back),
-        Op::Jmpf => jump(regs, lin, insn),
-        Op::Retf => return_to(regs, lin, insn),
-        Op::Iret => return_from_interrupt(regs, lin, insn),
-        _ => unreachable!(),
-    }
+    let far = transfer(regs, lin, insn, back)?;
+    Ok(next_of(far.outcome))
 }
 
 /// One of these instructions that some bytes spell, in an attempt in real mode: its registers and

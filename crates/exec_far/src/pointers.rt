@@ -7,9 +7,8 @@ ghost use Rattle.mdl_state.specs.Accesses.{Keeps};
 ghost use Rattle.mdl_state.specs.Attempt.{Plan, tried};
 ghost use Rattle.mdl_cpu.specs.Addresses.{HasAddress};
 ghost use Rattle.mdl_cpu.specs.Access.{load_from};
-ghost use Rattle.mdl_effect.specs.Operands.{After};
 ghost use Rattle.mdl_effect.specs.Kinds.{is_far_target};
-ghost use Rattle.mdl_effect.specs.FarEffects.{far_target};
+ghost use Rattle.mdl_effect.specs.FarEffects.{FarTransfer, far_target};
 
 use mdl_insn::{Insn, Mem, Operand};
 use mdl_state::{Fault, Regs, Seg, Size};
@@ -46,7 +45,7 @@ fn selector_behind<L: Linear>(
 pub(crate) fn target<L: Linear>(regs: &Regs, lin: &mut L, insn: &Insn) -> Result<Pointer, Fault>
     requires target { is_far_target insn.now.a ≡ true }
     requires address { HasAddress insn.now.a }
-    ensures run { (k : ℕ → ℕ → Plan After) →
+    ensures run { (k : ℕ → ℕ → Plan FarTransfer) →
         tried (by_pick L.pick) 0 (far_target insn.now.a insn.now.size regs.now k) (L.seen lin.old)
         ≡ on (outcome result, L.seen lin.new) (λ pointer m. tried (by_pick L.pick) 0 (k pointer.selector pointer.offset) m) }
     ensures keeps { Keeps (L.seen lin.old) (L.seen lin.new) }

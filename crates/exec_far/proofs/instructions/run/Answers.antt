@@ -24,7 +24,7 @@ returns-clause-steady g c =
     let now = c.run_formed in
     leaves_mode now.result old now.new.regs
     (answer_leaves old (by_pick g.L.Linear.pick) 0 (far_effect c.args.insn.now old c.args.back) (g.L.Linear.seen c.args.lin.now) (g.L.Linear.seen now.new.lin)
-    (ran now.result now.new.regs) (far_spelt spelt.0 spelt.1 c.args.insn.now old c.args.back spelt.2 c.requires.runs) now.ensures.run)
+    (ran now.result now.new.regs) (far_spelt spelt.0 spelt.1 c.args.insn.now old c.args.back spelt.2 c.requires.runs c.requires.mode) now.ensures.run)
     now.ensures.unchanged
 
 pub returns-clause-ordinary : goal.returns-clause-ordinary
@@ -34,4 +34,4 @@ returns-clause-ordinary g c =
     let now = c.run_formed in
     leaves_in_order now.result old now.new.regs
     (answer_leaves old (by_pick g.L.Linear.pick) 0 (far_effect c.args.insn.now old c.args.back) (g.L.Linear.seen c.args.lin.now) (g.L.Linear.seen now.new.lin)
-    (ran now.result now.new.regs) (far_spelt spelt.0 spelt.1 c.args.insn.now old c.args.back spelt.2 c.requires.runs) now.ensures.run)
+    (ran now.result now.new.regs) (far_spelt spelt.0 spelt.1 c.args.insn.now old c.args.back spelt.2 c.requires.runs c.requires.mode) now.ensures.run)
