@@ -1,6 +1,8 @@
 //! Lines of worked examples: each has an act and numbers in hexadecimal.
 
 use crate::machine::Machine;
+use crate::steps::PROTECTION;
+use mdl_state::Hidden;
 use std::alloc::{AllocError, Global};
 use std::io;
 
@@ -27,6 +29,10 @@ enum Act {
     Flags,
     /// Another privilege level.
     Level,
+    /// PE of CR0 set, and no other of its bits.
+    Protect,
+    /// The base, the limit and the rights of TR.
+    Task,
     /// The control registers.
     Control,
     /// The debug registers.
@@ -57,6 +63,8 @@ fn act_of(word: &str) -> Act {
         "segment" => Act::Segment,
         "flags" => Act::Flags,
         "level" => Act::Level,
+        "protect" => Act::Protect,
+        "task" => Act::Task,
         "control" => Act::Control,
         "debug" => Act::Debug,
         "tables" => Act::Tables,
@@ -161,6 +169,16 @@ fn print_answer(rt: &impl Print, machine: &mut Machine, line: &Line) -> io::Resu
         }
         Act::Flags => print!(rt; " = {:x}", machine.regs.eflags & first)?,
         Act::Level => machine.regs.cpl = (first % 4) as u8,
+        Act::Protect => machine.regs.cr0 = PROTECTION,
+        Act::Task => {
+            let tr = machine.regs.tr;
+            machine.regs.tr = Hidden {
+                base: first,
+                limit: line.numbers[1],
+                rights: (line.numbers[2] % 0x1_0000) as u16,
+                ..tr
+            };
+        }
         Act::Control | Act::Debug | Act::Tables => print_system(rt, machine, line.act)?,
         Act::Step => print_step(rt, machine, line)?,
     }

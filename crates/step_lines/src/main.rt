@@ -17,7 +17,8 @@
 //! `at` sets EIP, `put` puts a word at a linear address, `step` runs the instruction of these bytes, and
 //! says what follows or its fault, EIP and the registers, `flags` gives EFLAGS under a mask, `word` a
 //! word, and `segment` the selector and the base of a segment register. `level` sets the privilege
-//! level, `control` gives CR0, CR2 and CR3, `debug` the debug registers, and `tables` the
+//! level, `protect` sets PE, so that VM of EFLAGS makes it V86, and `task` gives TR a base, a limit and
+//! rights. `control` gives CR0, CR2 and CR3, `debug` the debug registers, and `tables` the
 //! limits and the bases of GDTR and IDTR. All else says what is shown.
 #![tactic(auto)]
 

@@ -32,7 +32,7 @@ use string_ops::runs_string;
 pub const ROOM: u16 = 256;
 
 /// PE of CR0.
-const PROTECTION: u32 = 1;
+pub const PROTECTION: u32 = 1;
 
 /// The instructions of one crate.
 #[derive(Clone, Copy)]
@@ -83,15 +83,15 @@ fn instruction_of(code: &[u8], big: bool) -> Option<Result<(Insn, u8, Family), F
     }
 }
 
-/// Data and far instructions run in real mode. The others do so too, but for a stack of 32 bits; those
-/// of the system run where CR0 says.
+/// Data and far instructions run in real mode. The others run in protected mode where code and stack are
+/// of 32 bits; else those of the system and of strings run where CR0 says, and those of flow in real mode.
 fn set_mode(regs: &mut Regs, family: Family, big: bool)
     ensures { is_of_real_mode family ≡ true → has_protection regs.new ≡ false }
 {
     regs.cr0 = match family {
         Family::Data | Family::Far => 0,
-        Family::Flow | Family::Strings => { if big { PROTECTION } else { 0 } }
-        Family::System => { if big { PROTECTION } else { regs.cr0 } }
+        Family::Flow => { if big { PROTECTION } else { 0 } }
+        Family::Strings | Family::System => { if big { PROTECTION } else { regs.cr0 } }
     };
 }
 
