@@ -22,7 +22,7 @@ both : (a b : Bool) → (a && b) ≡ true → (a ≡ true) × (b ≡ true)
 both true b e = (refl, e)
 both false b e = absurd cc
 
-truth : (b : Bool) → not b ≡ true → b ≡ false
+pub truth : (b : Bool) → not b ≡ true → b ≡ false
 truth false e = refl
 truth true e = absurd cc
 

@@ -8,3 +8,4 @@ pub mod Resumed
 pub mod Families
 pub mod Turns
 pub mod Arriving
+pub mod Eights

@@ -3,6 +3,7 @@ use Rattle.std.proofs.Common.{◌≡◌, ℕ, Bool, refl, arith}
 use Rattle.std.specs.Int.{bit_at}
 use Rattle.mdl_state.specs.declared.Regs.{Regs}
 use Rattle.mdl_state.specs.declared.Latches.{Latches}
+use Rattle.mdl_state.specs.Bytes.{bit}
 use Rattle.mdl_cpu.specs.SystemFlags.{TF, IF}
 use Rattle.mdl_step.specs.Boundary.{takes_line}
 use Rattle.mdl_step.specs.Step.{is_covered}
@@ -15,6 +16,9 @@ trap_bit e f = other_bit e f TF (omega arith) (omega arith) (omega arith) (omega
 
 pub interrupt_bit : (e f : ℕ) → bit_at (with_status e f) IF ≡ bit_at e IF
 interrupt_bit e f = other_bit e f IF (omega arith) (omega arith) (omega arith) (omega arith) (omega arith) (omega arith)
+
+pub whole_interrupts : (r : Regs) (f : ℕ) → bit (with_status r.eflags f) IF ≡ bit r.eflags IF
+whole_interrupts r f = rw (interrupt_bit r.eflags f) refl
 
 pub whole_covered : (r : Regs) (f : ℕ) → is_covered (whole r f) ≡ is_covered r
 whole_covered r f = rw (trap_bit r.eflags f) refl

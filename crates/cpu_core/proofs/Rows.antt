@@ -1,6 +1,9 @@
 -- The row of the boundary, by what is told of it.
-use Rattle.std.proofs.Common.{◌≡◌, ℕ, Bool, true, false, refl, sym, ◌∙◌, ap}
+use Rattle.std.proofs.Common.{◌≡◌, ◌==◌, ◌&&◌, ℕ, Bool, true, false, refl, sym, ◌∙◌, ap}
 use Rattle.std.specs.Prelude.{if◌then◌else◌}
+use Rattle.std.proofs.lemmas.Bool.{false≢true}
+use Rattle.mdl_state.specs.Bytes.{bit}
+use Rattle.mdl_cpu.specs.SystemFlags.{IF}
 use Rattle.mdl_state.specs.declared.Regs.{Regs}
 use Rattle.mdl_state.specs.declared.Latches.{Latches}
 use Rattle.mdl_state.specs.declared.Activity.{Activity}
@@ -18,6 +21,21 @@ busy false true nmi line hits e = cc
 busy false false true line hits e = cc
 busy false false false true hits e = cc
 busy false false false false hits e = cc
+
+-- an instruction is executed where nothing else is taken
+executes_where : (trap meets nmi line : Bool) (hits : ℕ) → trap ≡ false → meets ≡ false → nmi ≡ false → line ≡ false
+    → (if trap then rows.Trap else if meets then rows.Break hits else if nmi then rows.Nmi else if line then rows.Line else rows.Execute) ≡ rows.Execute
+executes_where trap meets nmi line hits a b c d = rw (a, b, c, d) refl
+
+unasked : (wants lets held : Bool) → (lets ≡ true → wants ≡ false) → (wants && lets && held) ≡ false
+unasked false lets held h = refl
+unasked true false held h = refl
+unasked true true held h = absurd (false≢true (sym (h refl)))
+
+pub executes : (activity : Activity) (wants : Bool) (r : Regs) (latches : Latches) → activity ≡ Running → takes_trap latches ≡ false → takes_nmi latches ≡ false
+    → (bit r.eflags IF ≡ true → wants ≡ false) → rows.Execute ≡ boundary_rows activity wants 0 r latches
+executes activity wants r latches runs trap nmi line = sym (ap (λ (a : Activity). boundary_rows a wants 0 r latches) runs
+    ∙ executes_where (takes_trap latches) (takes_break r latches 0) (takes_nmi latches) (takes_line wants r latches) 0 trap refl nmi (unasked wants (bit r.eflags IF) (latches.hold == 0) line))
 
 -- breakpoints count for none that is idle
 idles : (activity : Activity) (wants : Bool) (few more : ℕ) (r : Regs) (latches : Latches) → boundary_rows activity wants few r latches ≡ rows.Idle → boundary_rows activity wants more r latches ≡ rows.Idle
@@ -50,3 +68,21 @@ module _ {B : Type 0} (rules : Rules B) (m : Machine B) (row : Boundary)
   pub covered_row : is_covered m.state.core.regs ≡ true → row_of rules m ≡ row
   unfolding boundary
   covered_row e = ap (λ (hits : ℕ). boundary_rows m.state.core.activity (rules.wants m.board) hits m.state.core.regs m.state.core.latches) (no_hits m.state.core.regs _ (covered m.state.core.regs e).breakpoints) ∙ sym told
+
+-- an instruction is executed where the processor runs, nothing waits, and no interrupt is wanted that IF lets in
+pub usual_row : {B : Type 0} (rules : Rules B) (m : Machine B) → m.state.core.activity ≡ Running → takes_trap m.state.core.latches ≡ false → takes_nmi m.state.core.latches ≡ false
+    → (bit m.state.core.regs.eflags IF ≡ true → rules.wants m.board ≡ false) → is_covered m.state.core.regs ≡ true → row_of rules m ≡ rows.Execute
+usual_row rules m runs trap nmi line cover = covered_row rules m rows.Execute (executes m.state.core.activity (rules.wants m.board) m.state.core.regs m.state.core.latches runs trap nmi line) cover
+
+unlined : (trap meets nmi : Bool) (hits : ℕ) (rest : Boundary) → (rest ≡ rows.Line → ⊥) → (if trap then rows.Trap else if meets then rows.Break hits else if nmi then rows.Nmi else rest) ≡ rows.Line → ⊥
+unlined true meets nmi hits rest h e = cc
+unlined false true nmi hits rest h e = cc
+unlined false false true hits rest h e = cc
+unlined false false false hits rest h e = h e
+
+-- an interrupt is taken where one is wanted
+pub line_wanted : (activity : Activity) (wants : Bool) (r : Regs) (latches : Latches) → boundary_rows activity wants 0 r latches ≡ rows.Line → wants ≡ true
+line_wanted activity true r latches e = refl
+line_wanted Running false r latches e = absurd (unlined (takes_trap latches) (takes_break r latches 0) (takes_nmi latches) 0 rows.Execute (λ q. cc) e)
+line_wanted Halted false r latches e = absurd (unlined (takes_trap latches) false (takes_nmi latches) 0 rows.Idle (λ q. cc) e)
+line_wanted Shutdown false r latches e = absurd (unlined false false (takes_nmi latches) 0 rows.Idle (λ q. cc) e)

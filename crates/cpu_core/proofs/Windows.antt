@@ -25,17 +25,17 @@ use Rattle.cpu_core.specs.Window.{Window, byte_plan, Gives, IsAt}
 -- ---- one byte
 
 -- the window's byte is byte n of the code
-abbrev one_of : Regs → ℕ → Plan ℕ
+abbrev pub one_of : Regs → ℕ → Plan ℕ
 one_of r n = if nat_le (r.eip + n) (seg_of r Cs).limit then Load (((seg_of r Cs).base + (r.eip + n)) % 2 ^ 32) B1 (who_of r) (λ byte. Done byte) else Fail (general_protection 0)
 
 same_byte : (r : Regs) (n : ℕ) (w : Window) → IsAt r n w → byte_plan w ≡ one_of r n
 same_byte r n w at = rw (at.base, at.limit, at.who, at.offset) refl
 
 -- more bytes are one byte and then the others
-abbrev others : Regs → ℕ → ℕ → ℕ → Plan (List ℕ)
+abbrev pub others : Regs → ℕ → ℕ → ℕ → Plan (List ℕ)
 others r n count byte = then_plan (fetched_from r (n + 1) count) (λ more. Done (byte ∷ more))
 
-more_fetched : (r : Regs) (n count : ℕ) → fetched_from r n (suc count) ≡ then_plan (one_of r n) (others r n count)
+pub more_fetched : (r : Regs) (n count : ℕ) → fetched_from r n (suc count) ≡ then_plan (one_of r n) (others r n count)
 unfolding then_plan
 more_fetched r n count = by_limit (nat_le (r.eip + n) (seg_of r Cs).limit) refl
   where

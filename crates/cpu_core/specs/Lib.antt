@@ -5,3 +5,4 @@ pub mod Rows
 pub mod Turns
 pub mod Ran
 pub mod Families
+pub mod Passing

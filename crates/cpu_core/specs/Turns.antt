@@ -1,14 +1,17 @@
 -- What a row of the boundary does, over a memory with a rule that serves its pages, and for some choice.
-use Rattle.std.specs.Prelude.{◌≡◌, ℕ}
+use Rattle.std.specs.Prelude.{◌≡◌, ◌+◌, ℕ, true}
 use Rattle.mdl_state.specs.State.{Mem, Choice}
 use Rattle.mdl_state.specs.Machine.{Rules, Machine}
-use Rattle.mdl_state.specs.Choices.{walks_after}
+use Rattle.mdl_state.specs.Choices.{Meets, walks_after}
 use Rattle.mdl_state.specs.Serving.{Pick, Policy, Passed, by_pick}
 use Rattle.mdl_cpu.specs.Causes.{event_cause}
 use Rattle.mdl_step.specs.Boundary.{Boundary, Idle, Trap, Break, Nmi, Line, Execute}
 use Rattle.mdl_step.specs.Delivering.{delivered}
 use Rattle.mdl_step.specs.Fetching.{Code, Fetches}
-use Rattle.mdl_step.specs.Step.{at_trap, at_nmi, Comes, Does}
+use Rattle.mdl_step.specs.RunLaws.{SomeStep}
+use Rattle.mdl_step.specs.Step.{at_trap, at_nmi, is_covered, row_of, Comes, Does, IsUnbuilt}
+use Rattle.cpu_core.specs.declared.boundary.Turn.{Turn}
+use Rattle.cpu_core.specs.declared.boundary.Turn.TheVariants as turns
 
 -- what is at CS:EIP is fetched, and comes to this machine
 pub record Executed {B : Type 0} (rules : Rules B) (pick : Pick) (m n : Machine B) : Type 0 where
@@ -33,3 +36,21 @@ pub record SomeTurn {B : Type 0} (row : Boundary) (rules : Rules B) (policy : Po
   pub choice : Choice
   pub does : Does row rules policy m choice n
   pub walks : n.state.mem.walks ≡ walks_after choice.served m.state.mem.walks
+
+-- an instruction is executed next, and nothing was done yet
+pub record Goes {B : Type 0} (rules : Rules B) (m n : Machine B) : Type 0 where
+  pub same : n ≡ m
+  pub covered : is_covered n.state.core.regs ≡ true
+  pub row : row_of rules n ≡ Execute
+
+-- a step was made, for some choice that meets each policy that the rule of the memory meets
+pub record Makes {B : Type 0} (rules : Rules B) (pick : Pick) (m n : Machine B) : Type 0 where
+  pub made : (policy : Policy) → Meets pick policy → SomeStep rules policy m n
+  pub count : n.state.core.steps ≡ m.state.core.steps + 1
+  pub a20 : rules.gate n.board ≡ n.state.mem.physical.a20
+
+-- a step up to where an instruction is executed
+abbrev pub Turned : {B : Type 0} → Turn → Rules B → Pick → Machine B → Machine B → Type 0
+Turned turns.Executes rules pick m n = Goes rules m n
+Turned turns.Made rules pick m n = Makes rules pick m n
+Turned turns.Unbuilt rules pick m n = IsUnbuilt rules m × (n ≡ m)

@@ -1,5 +1,5 @@
 -- Code as it is fetched from memory, one byte after the other. Manual, chapter 6.
-use Rattle.std.specs.Prelude.{◌≡◌, ℕ, ◌+◌, ◌%◌, ◌^◌, nat_le, if◌then◌else◌, Result, OnOk}
+use Rattle.std.specs.Prelude.{◌≡◌, ◌<◌, ◌≤◌, ℕ, ◌+◌, ◌/◌, ◌%◌, ◌^◌, nat_le, false, if◌then◌else◌, Result, Ok, OnOk}
 use Rattle.mdl_state.specs.declared.Size.TheVariants.{B1}
 use Rattle.mdl_state.specs.declared.Seg.TheVariants.{Cs}
 use Rattle.mdl_state.specs.declared.Regs.{Regs}
@@ -7,8 +7,12 @@ use Rattle.mdl_state.specs.declared.Who.{Who}
 use Rattle.mdl_state.specs.declared.Fault.{Fault}
 use Rattle.mdl_state.specs.State.{Mem}
 use Rattle.mdl_state.specs.Registers.{seg_of}
-use Rattle.mdl_state.specs.Serving.{Pick, by_pick, outcome}
+use Rattle.mdl_state.specs.Bytes.{little_bytes}
+use Rattle.mdl_state.specs.Accesses.{read_at}
+use Rattle.mdl_state.specs.Serving.{Pick, Passed, by_pick, outcome}
 use Rattle.mdl_state.specs.Attempt.{Plan, Done, Fail, Load, tried}
+use Rattle.mdl_insn.specs.declared.instruction.Insn.{Insn}
+use Rattle.mdl_insn.specs.Spelling.{Spelt}
 use Rattle.mdl_cpu.specs.Segments.{who_of}
 use Rattle.mdl_cpu.specs.Faults.{undefined_opcode, general_protection}
 use Rattle.insn_decode.specs.declared.refusals.Undecoded.{Undecoded}
@@ -46,3 +50,19 @@ abbrev pub fault_of : Undecoded → Fault
 fault_of Undefined = undefined_opcode
 fault_of TooLong = general_protection 0
 fault_of (Fetch fault) = fault
+
+-- ---- eight bytes at once
+
+-- the lowest byte of a number, and the number without it
+abbrev pub gives_low : ℕ → Result ℕ Fault → ℕ → Type 0
+gives_low bytes r rest = (r ≡ Ok (bytes % 256)) × (rest ≡ bytes / 256)
+
+-- the eight bytes at CS:EIP lie within the limit of CS, and reading each gives that of the number, and changes nothing
+pub record HasEight (pick : Pick) (r : Regs) (m : Mem) (word : ℕ) : Type 0 where
+  pub within : r.eip + 7 ≤ (seg_of r Cs).limit
+  pub bytes : (i : ℕ) → i < 8 → (Passed (word / 256 ^ i % 256), m) ≡ read_at (by_pick pick) m (((seg_of r Cs).base + (r.eip + i)) % 2 ^ 32) B1 (who_of r)
+
+-- so many bytes of a number, at most eight, spell the instruction in code of 16 bits
+pub record Spells (word : ℕ) (insn : Insn) (count : ℕ) : Type 0 where
+  pub within : count ≤ 8
+  pub spelt : Spelt (little_bytes count word) false insn

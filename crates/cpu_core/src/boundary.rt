@@ -1,10 +1,12 @@
 //! The boundary between two instructions. Manual, chapters 9 and 10.
 
-ghost use Rattle.std.specs.Prelude.{◌≡◌, ◌<◌, ℕ, if◌then◌else◌};
+ghost use Rattle.std.specs.Prelude.{◌≡◌, ◌<◌, ℕ, false, if◌then◌else◌};
 ghost use Rattle.std.specs.Bool.{OnTrue, OnFalse};
 ghost use Rattle.mdl_state.specs.Bytes.{bit};
+ghost use Rattle.mdl_state.specs.declared.Activity.TheVariants.{Running};
 ghost use Rattle.mdl_step.specs.Boundary as rows;
 ghost use Rattle.mdl_step.specs.Boundary.{takes_nmi, takes_trap, takes_line, boundary_rows};
+ghost use Rattle.mdl_cpu.specs.SystemFlags.{IF};
 ghost use Rattle.mdl_step.specs.Step.{hold_after, activity_after};
 ghost use Rattle.operands.specs.Whole.{whole};
 ghost use Rattle.cpu_core.specs.Rows.{told};
@@ -30,6 +32,17 @@ pub(crate) enum Row {
     Execute,
 }
 
+/// What a step is, up to where an instruction is executed.
+#[derive(Clone, Copy)]
+pub(crate) enum Turn {
+    /// An instruction is executed next.
+    Executes,
+    /// It is made.
+    Made,
+    /// It is not built.
+    Unbuilt,
+}
+
 /// Whether a bit is 1.
 #[inline(always)]
 pub(crate) fn has(number: u32, place: u8) -> bool
@@ -37,6 +50,15 @@ pub(crate) fn has(number: u32, place: u8) -> bool
     ensures { result ≡ bit number place }
 {
     (number >> place) & 1 == 1
+}
+
+/// Whether IF lets interrupts in.
+#[tactic(auto, using(crate::proofs::Modes::whole_interrupts))]
+#[inline(always)]
+pub(crate) fn lets_in(regs: &Regs) -> bool
+    ensures { (flags : ℕ) → result ≡ bit (whole regs.now flags).eflags IF }
+{
+    has(regs.eflags, INTERRUPTS)
 }
 
 /// An NMI waits, is not masked, and nothing holds it back.
@@ -96,6 +118,25 @@ pub(crate) fn boundary(activity: Activity, wants: bool, regs: &Regs, latches: &L
     }
 }
 
+/// Whether the processor runs, and no debug trap and no NMI waits.
+#[inline(always)]
+pub(crate) fn runs_on(activity: Activity, latches: &Latches) -> bool
+    ensures running { OnTrue result (activity ≡ Running) }
+    ensures trap { OnTrue result (takes_trap latches.now ≡ false) }
+    ensures nmi { OnTrue result (takes_nmi latches.now ≡ false) }
+{
+    if latches.pending != 0 {
+        return false;
+    }
+    if latches.nmi {
+        return false;
+    }
+    match activity {
+        Activity::Running => true,
+        _ => false,
+    }
+}
+
 /// Whether nothing happens in a step.
 #[inline(always)]
 pub(crate) fn is_idle(row: Row) -> bool
@@ -104,6 +145,17 @@ pub(crate) fn is_idle(row: Row) -> bool
 {
     match row {
         Row::Idle => true,
+        _ => false,
+    }
+}
+
+/// Whether an instruction is executed in a step.
+pub(crate) fn is_execution(row: Row) -> bool
+    ensures executes { OnTrue result (told row ≡ rows.Execute) }
+    ensures other { OnFalse result (told row ≡ rows.Execute → ⊥) }
+{
+    match row {
+        Row::Execute => true,
         _ => false,
     }
 }

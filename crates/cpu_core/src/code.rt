@@ -1,10 +1,10 @@
 //! Memory with the code that is fetched from it.
 
-ghost use Rattle.std.specs.Prelude.{◌≡◌};
+ghost use Rattle.std.specs.Prelude.{◌≡◌, IfSome};
 ghost use Rattle.mdl_state.specs.declared.Seg.TheVariants.{Cs};
 ghost use Rattle.mdl_state.specs.Registers.{seg_of};
 ghost use Rattle.mdl_cpu.specs.Segments.{who_of};
-ghost use Rattle.cpu_core.specs.Window.{Gives};
+ghost use Rattle.cpu_core.specs.Window.{Gives, HasEight, gives_low};
 
 use mdl_insn::Fetch;
 use mdl_state::{Fault, Regs, Seg, Size, Who};
@@ -40,6 +40,31 @@ impl<L: Linear> Fetch for Code<L> {
     }
 }
 
+/// Eight bytes of code, or as many as are left, the next one lowest.
+#[derive(Drop)]
+pub(crate) struct Eight {
+    bytes: u64,
+}
+
+impl Fetch for Eight {
+    ghost gives = { λ s r t. gives_low s.bytes r t.bytes };
+
+    #[inline(always)]
+    fn next(&mut self) -> Result<u8, Fault> {
+        let byte = (self.bytes % 0x100) as u8;
+        self.bytes /= 0x100;
+        Ok(byte)
+    }
+}
+
+impl Eight {
+    pub(crate) fn new(bytes: u64) -> Eight
+        ensures { result.bytes ≡ bytes }
+    {
+        Eight { bytes }
+    }
+}
+
 impl<L: Linear> Code<L> {
     pub(crate) fn new(lin: L) -> Code<L>
         ensures { result.lin ≡ lin }
@@ -50,6 +75,21 @@ impl<L: Linear> Code<L> {
             limit: 0,
             who: Who::Supervisor,
             offset: 0,
+        }
+    }
+
+    /// The eight bytes at CS:EIP, where they lie within the limit of CS and memory has them at hand.
+    #[inline(always)]
+    pub(crate) fn near(&self, regs: &Regs) -> Option<u64>
+        ensures { IfSome result (λ word. HasEight L.pick regs.now (L.seen self.now.lin) word) }
+    {
+        let code = segment(regs, Seg::Cs);
+        if regs.eip as u64 + 7 > code.limit as u64 {
+            return None;
+        }
+        match self.lin.near(code.base.wrapping_add(regs.eip), who(regs)) {
+            Some(word) => Some(word),
+            None => None,
         }
     }
 

@@ -5,9 +5,8 @@ ghost use Rattle.std.specs.Bool.{OnTrue, OnFalse};
 ghost use Rattle.mdl_state.specs.declared.Regs.{Regs as Registers};
 ghost use Rattle.mdl_state.specs.Accesses.{with_a20};
 ghost use Rattle.mdl_state.specs.Boot.{reset_core};
-ghost use Rattle.mdl_state.specs.Choices.{Meets};
 ghost use Rattle.mdl_state.specs.Machine.{Machine};
-ghost use Rattle.mdl_state.specs.Serving.{Policy, Passed, by_pick};
+ghost use Rattle.mdl_state.specs.Serving.{Passed, by_pick};
 ghost use Rattle.mdl_insn.specs.declared.instruction.Insn.{Insn as Instruction};
 ghost use Rattle.mdl_cpu.specs.Causes.{event_cause};
 ghost use Rattle.mdl_cpu.specs.Segments.{has_protection};
@@ -16,18 +15,17 @@ ghost use Rattle.mem_iface.specs.Rules.{rules_of};
 ghost use Rattle.mdl_step.specs.Boundary as rows;
 ghost use Rattle.mdl_step.specs.Delivering.{delivered};
 ghost use Rattle.mdl_step.specs.Events.{with_nmi, reset_with};
-ghost use Rattle.mdl_step.specs.RunLaws.{SomeStep};
-ghost use Rattle.mdl_step.specs.Step.{EndsBy, IsUnbuilt, activity_after, at_nmi, at_trap, faulted, hold_after, is_covered, landed, masks, passed_by, resumed};
+ghost use Rattle.mdl_step.specs.Step.{EndsBy, activity_after, at_nmi, at_trap, faulted, hold_after, is_covered, landed, masks, passed_by, resumed};
 ghost use Rattle.cpu_core.specs.Executing.{MayFollow};
 ghost use Rattle.cpu_core.specs.Plain.{IsPlain, IsReady};
 ghost use Rattle.cpu_core.specs.Rows.{told};
 ghost use Rattle.cpu_core.specs.Turns.{Executed, Takes};
 
-use crate::boundary::{Row, activity_after, boundary, hold_after, is_idle};
+use crate::boundary::{Row, activity_after, hold_after};
 use crate::causes::{DEBUG, NON_MASKABLE, activity_at, event_cause, pending_at, soft_cause};
 use crate::code::Code;
 use crate::decoding::decode;
-use crate::execute::{execute, is_covered, land, masks};
+use crate::execute::{execute, land, masks};
 use crate::reset::{clear_latches, reset_regs};
 use fault_delivery::{Cause, fault_cause, note_address};
 use insn_decode::blank;
@@ -167,8 +165,8 @@ impl<L: Linear, P: Ports> Cpu<L, P> {
     }
 
     /// What follows an instruction that passed: a software interrupt is delivered.
-    #[inline(always)]
-    fn complete(&mut self, op: Op, next: Next, back: u32)
+    #[inline(never)]
+    fn complete_with(&mut self, op: Op, next: Next, back: u32)
         requires follows { MayFollow next self.old.state.core.regs }
         requires served { self.old.state.mem.served ≡ [] }
         ensures made { (insn : Instruction) (old : Registers) (access : PortUse) → insn.op ≡ op → is_covered old ≡ true →
@@ -185,10 +183,31 @@ impl<L: Linear, P: Ports> Cpu<L, P> {
         }
     }
 
+    /// The same, with what mostly follows in line.
+    #[inline(always)]
+    fn complete(&mut self, op: Op, next: Next, back: u32)
+        requires follows { MayFollow next self.old.state.core.regs }
+        requires served { self.old.state.mem.served ≡ [] }
+        ensures made { (insn : Instruction) (old : Registers) (access : PortUse) → insn.op ≡ op → is_covered old ≡ true →
+            passed_by next (by_pick L.pick) (record self.old.state.core { regs = old }) insn (record { regs = self.old.state.core.regs; next = next; access = access }) back 0 self.old.state.mem
+            ≡ (Passed self.new.state.core, self.new.state.mem) }
+        ensures board { self.new.board ≡ self.old.board }
+        ensures steps { self.new.state.core.steps ≡ self.old.state.core.steps }
+        ensures served { self.new.state.mem.served ≡ [] }
+        ensures a20 { self.new.state.mem.physical.a20 ≡ self.old.state.mem.physical.a20 }
+    {
+        match next {
+            Next::Follow => self.land(op, Next::Follow, back),
+            Next::Landed => self.land(op, Next::Landed, back),
+            Next::Again => self.land(op, Next::Again, back),
+            _ => self.complete_with(op, next, back),
+        }
+    }
+
     /// Executes the instruction at CS:EIP, or delivers its fault. Answers whether a port may have been
     /// written.
     #[inline(always)]
-    fn execute(&mut self) -> bool
+    pub(crate) fn execute(&mut self) -> bool
         requires covered { is_covered self.old.state.core.regs ≡ true }
         ensures executed { Executed (rules_of P.Ports) L.pick self.old self.new }
         ensures steps { self.new.state.core.steps ≡ self.old.state.core.steps }
@@ -272,33 +291,23 @@ impl<L: Linear, P: Ports> Cpu<L, P> {
         self.deliver(cause);
     }
 
-    /// Takes a row of the boundary. Answers whether a port may have been written.
-    #[inline(always)]
-    fn take(&mut self, row: Row) -> bool
+    /// Takes a row of the boundary in which no instruction is executed.
+    pub(crate) fn take(&mut self, row: Row)
         requires busy { told row ≡ rows.Idle → ⊥ }
+        requires event { told row ≡ rows.Execute → ⊥ }
         requires covered { is_covered self.old.state.core.regs ≡ true }
         requires wants { told row ≡ rows.Line → P.wants self.old.board ≡ true }
         ensures taken { Takes (told row) (rules_of P.Ports) L.pick self.old self.new }
         ensures steps { self.new.state.core.steps ≡ self.old.state.core.steps }
         ensures served { self.new.state.mem.served ≡ [] }
         ensures a20 { self.new.state.mem.physical.a20 ≡ self.old.state.mem.physical.a20 }
-        ensures gate { OnFalse result (P.gate self.new.board ≡ P.gate self.old.board) }
+        ensures gate { P.gate self.new.board ≡ P.gate self.old.board }
     {
         match row {
-            Row::Execute => self.execute(),
-            Row::Line => {
-                self.interrupt();
-                false
-            }
-            Row::Nmi => {
-                self.take_nmi();
-                false
-            }
-            Row::Trap => {
-                self.trap();
-                false
-            }
-            Row::Idle => unreachable!(),
+            Row::Line => self.interrupt(),
+            Row::Nmi => self.take_nmi(),
+            Row::Trap => self.trap(),
+            Row::Idle | Row::Execute => unreachable!(),
         }
     }
 
@@ -317,7 +326,7 @@ impl<L: Linear, P: Ports> Cpu<L, P> {
 
     /// Counts a step, and makes the reset that the ports ask for.
     #[inline(always)]
-    fn finish(&mut self, wrote: bool)
+    pub(crate) fn finish(&mut self, wrote: bool)
         requires steps { self.old.state.core.steps < 2 ^ 64 - 1 }
         requires a20 { OnFalse wrote (P.gate self.old.board ≡ self.old.state.mem.physical.a20) }
         ensures ends { EndsBy (P.asks self.old.board) (rules_of P.Ports) self.old self.new }
@@ -329,33 +338,6 @@ impl<L: Linear, P: Ports> Cpu<L, P> {
         if self.ports.take_reset() {
             self.reset();
         }
-    }
-
-    /// Makes a step of the written machine, for some choice whose items meet each policy that those of
-    /// the memory meet. Answers false where the next step is not built, and then changes nothing.
-    ///
-    /// The line A20 of the memory is that of the ports, before it and behind it.
-    pub fn step(&mut self) -> bool
-        requires steps { self.old.state.core.steps < 2 ^ 64 - 1 }
-        requires a20 { P.gate self.old.board ≡ self.old.state.mem.physical.a20 }
-        ensures made { OnTrue result ((policy : Policy) → Meets L.pick policy → SomeStep (rules_of P.Ports) policy self.old self.new) }
-        ensures count { OnTrue result (self.new.state.core.steps ≡ self.old.state.core.steps + 1) }
-        ensures unbuilt { OnFalse result (IsUnbuilt (rules_of P.Ports) self.old) }
-        ensures unchanged { OnFalse result (self.new ≡ self.old) }
-        ensures a20 { P.gate self.new.board ≡ self.new.state.mem.physical.a20 }
-    {
-        let wants = self.ports.wants_interrupt();
-        let row = boundary(self.activity, wants, &self.regs, &self.latches);
-        if is_idle(row) {
-            self.finish(false);
-            return true;
-        }
-        if !is_covered(&self.regs) {
-            return false;
-        }
-        let wrote = self.take(row);
-        self.finish(wrote);
-        true
     }
 
     /// Resets the processor. Memory, the ports and the count of steps stay; the line A20 is then as the

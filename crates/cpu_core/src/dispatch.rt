@@ -112,6 +112,7 @@ fn run_string<L: Linear, P: Ports>(
 }
 
 /// A far instruction, which has EFLAGS whole.
+#[inline(never)]
 fn run_far<L: Linear, P: Ports>(
     regs: &mut Regs,
     flags: &mut Flags,
@@ -133,6 +134,7 @@ fn run_far<L: Linear, P: Ports>(
 }
 
 /// An instruction of the system, which has EFLAGS whole.
+#[inline(never)]
 fn run_system<L: Linear, P: Ports>(
     regs: &mut Regs,
     flags: &mut Flags,
@@ -154,6 +156,7 @@ fn run_system<L: Linear, P: Ports>(
 }
 
 /// Runs an instruction in an attempt. `back` is the EIP behind it.
+#[inline(always)]
 pub(crate) fn run<L: Linear, P: Ports>(
     regs: &mut Regs,
     flags: &mut Flags,

@@ -13,6 +13,7 @@ mod dispatch;
 mod execute;
 mod reset;
 mod seen;
+mod steps;
 #[cfg(test)]
 mod tests;
 

@@ -1,10 +1,11 @@
 //! Memory by linear addresses.
 
-ghost use Rattle.std.specs.Prelude.{◌≡◌, ◌+◌, ◌-◌, ◌<◌, ◌≤◌, [], length, OnOk, OnErr, IfOk};
+ghost use Rattle.std.specs.Prelude.{◌≡◌, ℕ, ◌+◌, ◌-◌, ◌/◌, ◌%◌, ◌^◌, ◌<◌, ◌≤◌, [], length, OnOk, OnErr, IfOk, IfSome};
 ghost use Rattle.std.specs.FinMap.{empty};
+ghost use Rattle.mdl_state.specs.declared.Size.TheVariants.{B1};
 ghost use Rattle.mdl_state.specs.State.{Mem};
 ghost use Rattle.mdl_state.specs.Bytes.{bytes_of, bound_of};
-ghost use Rattle.mdl_state.specs.Serving.{Pick, Policy, by_pick, outcome};
+ghost use Rattle.mdl_state.specs.Serving.{Pick, Policy, Passed, by_pick, outcome};
 ghost use Rattle.mdl_state.specs.Accesses.{translated, got, held_at, read_at, written_at, committed, discarded, with_a20, held_room, Keeps, IsPlace, HasRoom};
 ghost use Rattle.mdl_state.specs.Choices.{Meets};
 
@@ -52,6 +53,11 @@ pub trait Linear {
         ensures bound { IfOk result (λ value. value < bound_of size) }
         ensures keeps { Keeps (seen self.old) (seen self.new) }
         ensures held { (seen self.new).held ≡ (seen self.old).held };
+
+    /// Eight bytes at successive addresses, the lowest first, where they are at hand: reading each of
+    /// them gives it, and changes nothing. No answer says nothing.
+    fn near(&self, lin: u32, who: Who) -> Option<u64>
+        ensures { IfSome result (λ word. (i : ℕ) → i < 8 → (Passed (word / 256 ^ i % 256), seen self.now) ≡ read_at (by_pick pick) (seen self.now) ((lin + i) % 2 ^ 32) B1 who) };
 
     /// `translate`, and then `hold`.
     fn write(&mut self, lin: u32, size: Size, value: u32, who: Who) -> Result<(), Fault>

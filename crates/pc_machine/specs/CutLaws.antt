@@ -158,11 +158,11 @@ steps_same some others (choice ∷ choices) m n same ran =
           (subst (λ x. Steps board_rules on_board some run_policy x choices n) after ran.2),
     )
 
-steps_join : (events : List Event) (first second : List Choice) (m mid n : Machine BoardState) → Steps board_rules on_board events run_policy m first mid → Steps board_rules on_board events run_policy mid second n → Steps board_rules on_board events run_policy m (first ++ second) n
+pub steps_join : (events : List Event) (first second : List Choice) (m mid n : Machine BoardState) → Steps board_rules on_board events run_policy m first mid → Steps board_rules on_board events run_policy mid second n → Steps board_rules on_board events run_policy m (first ++ second) n
 steps_join events [] second m mid n one two = subst (λ x. Steps board_rules on_board events run_policy x second n) one two
 steps_join events (choice ∷ first) second m mid n one two = (one.0, one.1, steps_join events first second (after_events events one.0) mid n one.2 two)
 
-walks_join : (first second : List Choice) (walks : ℕ) → walks_in (first ++ second) walks ≡ walks_in second (walks_in first walks)
+pub walks_join : (first second : List Choice) (walks : ℕ) → walks_in (first ++ second) walks ≡ walks_in second (walks_in first walks)
 walks_join [] second walks = refl
 walks_join (choice ∷ first) second walks = walks_join first second _
 

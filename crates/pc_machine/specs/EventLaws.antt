@@ -172,7 +172,7 @@ event_walks (Pulse count) m = refl
 event_walks Nmi m = refl
 event_walks Reset m = refl
 
-events_walk : (events es : List Event) (m : Machine BoardState) → (run.all_applied board_rules on_board events es m).state.mem.walks ≡ m.state.mem.walks
+pub events_walk : (events es : List Event) (m : Machine BoardState) → (run.all_applied board_rules on_board events es m).state.mem.walks ≡ m.state.mem.walks
 events_walk events [] m = refl
 events_walk events (e ∷ es) m = events_walk events es (happens e.kind m) ∙ event_walks e.kind m
 

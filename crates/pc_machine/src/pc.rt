@@ -1,10 +1,12 @@
 //! The machine, a step and an event of it.
 
-ghost use Rattle.std.specs.Prelude.{◌≡◌, ◌<◌, ◌+◌, ◌^◌, true, false};
+ghost use Rattle.std.specs.Prelude.{◌≡◌, ◌<◌, ◌≤◌, ◌+◌, ◌^◌, true, false};
 ghost use Rattle.std.specs.Bool.{OnTrue, OnFalse};
 ghost use Rattle.mdl_step.specs.RunLaws.{SomeStep};
-ghost use Rattle.mdl_step.specs.Step.{IsUnbuilt};
+ghost use Rattle.mdl_step.specs.Boundary.{Idle};
+ghost use Rattle.mdl_step.specs.Step.{IsUnbuilt, row_of};
 ghost use Rattle.mdl_step.specs.Computer.{board_rules, run_policy, happens};
+ghost use Rattle.cpu_core.specs.Passing.{later};
 ghost use Rattle.pc_machine.specs.Settled.{IsSettled};
 
 use board::Board;
@@ -44,6 +46,7 @@ impl Pc {
     }
 
     /// Makes one step. Answers false where the next step is not built, and then changes nothing.
+    #[inline(always)]
     pub fn step(&mut self) -> bool
         requires { self.old.state.core.steps < 10 ^ 15 }
         ensures made { OnTrue result (SomeStep board_rules run_policy self.old self.new) }
@@ -52,6 +55,19 @@ impl Pc {
         ensures unchanged { OnFalse result (self.new ≡ self.old) }
     {
         self.cpu.step()
+    }
+
+    /// Passes over so many steps at once, where nothing happens in them. Answers whether it did, and
+    /// else changes nothing.
+    #[inline(always)]
+    pub(crate) fn pass(&mut self, steps: u64) -> bool
+        requires { self.old.state.core.steps + steps ≤ 10 ^ 15 }
+        ensures idle { OnTrue result (row_of board_rules self.old ≡ Idle) }
+        ensures settled { IsSettled self.old }
+        ensures passed { OnTrue result (self.new ≡ later steps self.old) }
+        ensures unchanged { OnFalse result (self.new ≡ self.old) }
+    {
+        self.cpu.pass(steps)
     }
 
     /// What happens from outside, now, whatever the event's count is.

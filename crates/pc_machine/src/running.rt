@@ -1,10 +1,12 @@
 //! Runs, with events at their counts of steps.
 
-ghost use Rattle.std.specs.Prelude.{◌≡◌, ◌≤◌, ◌<◌, ◌+◌, ◌^◌, drop, length, IfOk, IfErr, OnOk, OnErr, IfSome};
+ghost use Rattle.std.specs.Prelude.{◌≡◌, ◌≤◌, ◌<◌, ◌+◌, ◌^◌, [], drop, length, IfOk, IfErr, OnOk, OnErr, IfSome};
+ghost use Rattle.std.specs.Bool.{OnTrue, OnFalse};
 ghost use Rattle.mdl_text.specs.Script.{RisesFrom};
 ghost use Rattle.mdl_step.specs.Run.{after_events};
-ghost use Rattle.mdl_step.specs.Computer.{board_rules, on_board};
-ghost use Rattle.pc_machine.specs.Runs.{due_by, RanFor, StopsBefore};
+ghost use Rattle.mdl_step.specs.RunLaws.{StepsFor};
+ghost use Rattle.mdl_step.specs.Computer.{board_rules, on_board, run_policy};
+ghost use Rattle.pc_machine.specs.Runs.{due_by, RanFor, Stalls, StopsBefore};
 ghost use Rattle.pc_machine.specs.EventLaws.{Split, next_at};
 
 use crate::pc::Pc;
@@ -29,6 +31,21 @@ fn next_event(events: &[Event], at: usize, count: u64) -> Option<Event>
     }
 }
 
+/// How many steps there are up to the count of the next event, the one at an index, but at most so many.
+fn steps_before_next(events: &[Event], at: usize, count: u64, most: u64) -> u64
+    requires split { Split (count + 1) (count + 1) events.now at }
+    requires most { 0 < most }
+    ensures some { 0 < result }
+    ensures most { result ≤ most }
+    ensures split { Split (count + 1) (count + result) events.now at }
+{
+    if at < events.len() {
+        let next = events[at].at;
+        return most.min(next - count);
+    }
+    most
+}
+
 impl Pc {
     /// Applies the events of the present count of steps, from an index on, and answers the index
     /// behind them.
@@ -47,6 +64,25 @@ impl Pc {
         done
     }
 
+    /// Makes so many steps with no event between them. Answers false where it comes to a step that is
+    /// not built, and stops there.
+    fn advance(&mut self, steps: u64) -> bool
+        requires { self.old.state.core.steps + steps ≤ 10 ^ 15 }
+        ensures made { OnTrue result (StepsFor board_rules on_board [] run_policy steps self.old self.new) }
+        ensures count { OnTrue result (self.new.state.core.steps ≡ self.old.state.core.steps + steps) }
+        ensures stopped { OnFalse result (Stalls steps self.old self.new) }
+    {
+        for done in 0..steps {
+            if self.pass(steps - done) {
+                return true;
+            }
+            if !self.step() {
+                return false;
+            }
+        }
+        true
+    }
+
     /// Makes so many steps. An event is applied when the count of steps is its own, before the next
     /// step, in the list's order; those of the last count are applied behind the last step, and later
     /// ones never. Answers how many events were applied.
@@ -63,11 +99,14 @@ impl Pc {
         ensures stopped_applied { IfErr result (λ stop. stop.applied ≡ due_by self.new.state.core.steps events.now) }
     {
         let mut applied = self.apply(events, 0);
-        for _step in 0..steps {
-            if !self.step() {
+        let mut done = 0;
+        while done < steps {
+            let burst = steps_before_next(events, applied, self.steps(), steps - done);
+            if !self.advance(burst) {
                 return Err(Unbuilt { applied });
             }
             applied = self.apply(events, applied);
+            done += burst;
         }
         Ok(applied)
     }

@@ -1,6 +1,6 @@
 -- Accesses with paging off.
-use Rattle.std.specs.Prelude.{ℕ, ◌≡◌, ◌≤◌, ◌+◌, ◌%◌, ◌^◌, Bool, true, false, not, if◌then◌else◌, refl, List, []}
-use Rattle.std.proofs.Common.{arith, ap, sym, ◌∙◌}
+use Rattle.std.specs.Prelude.{ℕ, ◌≡◌, ◌<◌, ◌≤◌, ◌+◌, ◌/◌, ◌%◌, ◌^◌, Bool, true, false, not, if◌then◌else◌, refl, List, []}
+use Rattle.std.proofs.Common.{arith, ap, sym, subst, ◌∙◌}
 use Rattle.mdl_state.specs.declared.Size.{Size}
 use Rattle.mdl_state.specs.declared.Size.TheVariants.{B1, B2, B4}
 use Rattle.mdl_state.specs.declared.Who.{Who}
@@ -9,6 +9,7 @@ use Rattle.mdl_state.specs.declared.Access.TheVariants.{Read, Write}
 use Rattle.mdl_state.specs.declared.Place.{Place}
 use Rattle.mdl_state.specs.State.{Mem}
 use Rattle.mdl_state.specs.Bytes.{bytes_of}
+use Rattle.mdl_state.specs.Memory.{byte_at}
 use Rattle.mdl_state.specs.declared.Watch.{Watch}
 use Rattle.mdl_state.specs.Watches.{hits_after, noted}
 use Rattle.mdl_state.specs.Serving.{Outcome, Serve, Passed, on}
@@ -37,12 +38,24 @@ translated_off : (serve : Serve) (m : Mem) (lin : ℕ) (size : Size) (access : A
 unfolding translated unpaged
 translated_off serve m lin size access off none = first m.paging _ _ off ∙ ap (λ (n : Mem). (Passed (unpaged m lin size), n)) (noted_none m lin size access none)
 
-pub direct_read : (serve : Serve) (m : Mem) (lin : ℕ) (size : Size) (who : Who) (value : ℕ) → m.paging ≡ false → m.watch ≡ [] → m.held ≡ [] → lin % 0x1000 + 4 ≤ 0x1000 → value ≡ loaded m.physical lin size → (Passed value, m) ≡ read_at serve m lin size who
+read_here : (serve : Serve) (m : Mem) (lin : ℕ) (size : Size) (who : Who) (value : ℕ) → m.paging ≡ false → m.watch ≡ [] → m.held ≡ [] → bytes_here lin size ≡ bytes_of size → value ≡ loaded m.physical lin size → (Passed value, m) ≡ read_at serve m lin size who
 unfolding read_at unpaged
-direct_read serve m lin size who value off clear none page v =
-    ap (λ (n : ℕ). (Passed n, m)) (v ∙ sym (whole_got m.physical (unpaged m lin size) size (here lin size page))
+read_here serve m lin size who value off clear none whole v =
+    ap (λ (n : ℕ). (Passed n, m)) (v ∙ sym (whole_got m.physical (unpaged m lin size) size whole)
     ∙ ap (λ (held : List (ℕ × ℕ)). got_from m.physical held (unpaged m lin size) size) (sym none))
     ∙ sym (ap (λ (w : Outcome Place × Mem). on w (λ place n. (Passed (got n place size), n))) (translated_off serve m lin size (Read who) off clear))
+
+pub direct_read : (serve : Serve) (m : Mem) (lin : ℕ) (size : Size) (who : Who) (value : ℕ) → m.paging ≡ false → m.watch ≡ [] → m.held ≡ [] → lin % 0x1000 + 4 ≤ 0x1000 → value ≡ loaded m.physical lin size → (Passed value, m) ≡ read_at serve m lin size who
+direct_read serve m lin size who value off clear none page v = read_here serve m lin size who value off clear none (here lin size page) v
+
+-- eight bytes of physical memory are those that are read
+pub near_read : (serve : Serve) (m : Mem) (lin : ℕ) (who : Who) (word : ℕ) → m.paging ≡ false → m.watch ≡ [] → m.held ≡ [] → lin + 8 ≤ 0xA0000
+    → ((i : ℕ) → i < 8 → byte_at m.physical (lin + i) ≡ word / 256 ^ i % 256) → (i : ℕ) → i < 8 → (Passed (word / 256 ^ i % 256), m) ≡ read_at serve m ((lin + i) % 2 ^ 32) B1 who
+unfolding loaded
+near_read serve m lin who word off clear none low bytes i small =
+    let same : (lin + i) % 2 ^ 32 ≡ lin + i = omega (arith, low, small) in
+    subst (λ (at : ℕ). (Passed (word / 256 ^ i % 256), m) ≡ read_at serve m at B1 who) (sym same)
+    (read_here serve m (lin + i) B1 who (word / 256 ^ i % 256) off clear none (omega arith) (sym (bytes i small)))
 
 pub direct_write : (serve : Serve) (m : Mem) (lin : ℕ) (size : Size) (value : ℕ) (who : Who) (place : Place) → m.paging ≡ false → m.watch ≡ [] → place ≡ record { first = lin; second = (lin + bytes_here lin size) % 2 ^ 32; cut = bytes_here lin size } → (Passed tt, held_at m place size value) ≡ written_at serve m lin size value who
 unfolding written_at unpaged

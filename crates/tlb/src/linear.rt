@@ -16,6 +16,9 @@ use mem_iface::{Linear, Phys, bytes_of};
 /// The last place in a page at which every access lies whole.
 const LAST_WHOLE: u32 = PAGE - 4;
 
+/// The last address of eight bytes of conventional memory.
+const LAST_EIGHT: u32 = 0xA0000 - 8;
+
 impl Tlb {
     /// A read by its place.
     #[inline(never)]
@@ -44,6 +47,16 @@ impl Tlb {
         let place = self.translate(lin, size, Access::Write(who))?;
         self.hold(place, size, value);
         Ok(())
+    }
+
+    /// Whether eight bytes are those of conventional memory as it stands.
+    #[inline(always)]
+    fn is_near(&self, lin: u32) -> bool
+        ensures paging { OnTrue result (self.now.paging ≡ false) }
+        ensures held { OnTrue result (self.now.held ≡ []) }
+        ensures low { OnTrue result (lin + 8 ≤ 0xA0000) }
+    {
+        lin <= LAST_EIGHT && self.held.is_empty() && !self.paging
     }
 
     /// Whether an access is one of physical memory as it stands, in one page.
@@ -93,6 +106,14 @@ impl Linear for Tlb {
         self.read_place(lin, size, who)
     }
 
+    #[inline(always)]
+    fn near(&self, lin: u32, _who: Who) -> Option<u64> {
+        if !self.is_near(lin) {
+            return None;
+        }
+        Some(self.phys.load_eight(lin))
+    }
+
     #[tactic(auto, using(crate::proofs::Direct::direct_write))]
     fn write(&mut self, lin: u32, size: Size, value: u32, who: Who) -> Result<(), Fault> {
         if self.paging {
@@ -106,6 +127,7 @@ impl Linear for Tlb {
         self.held.room()
     }
 
+    #[inline(always)]
     #[tactic(auto, unfolding(mdl_state::specs::Accesses::committed))]
     fn commit(&mut self) {
         if self.held.is_empty() {

@@ -1,33 +1,80 @@
-use Rattle.std.proofs.Common.{ℕ, arith, subst}
-use Rattle.mdl_step.specs.RunLaws.{steps_more}
+use Rattle.std.proofs.Common.{◌≡◌, ℕ, ◌+◌, ap, sym, subst, arith, ◌∙◌}
+use Rattle.mdl_state.specs.Machine.{Machine}
+use Rattle.mdl_board.specs.Board.{BoardState}
+use Rattle.mdl_step.specs.RunLaws.{StepsFor, steps_none}
 use Rattle.mdl_step.specs.Computer.{board_rules, on_board, run_policy}
 use Rattle.pc_machine.specs.Runs.{RanFor}
-use Rattle.pc_machine.specs.EventLaws.{after_events, ran_for, stops, split_count}
+use Rattle.pc_machine.specs.EventLaws.{Split, after_events, ran_for, stops, split_count}
+use Rattle.pc_machine.proofs.Bursts.{none_between, split_between, steps_burst, steps_stalled}
 use Rattle.pc_machine.proofs.pc.Pc.run.Goals as goal
 
-pub returns-then-not-step-clause-stopped : goal.returns-then-not-step-clause-stopped
-returns-then-not-step-clause-stopped c = let held = c.loop-step.invariant in
-    stops c.args.events.now c.args.steps c.loop-step._step c.args.self.now c.loop-step.self c.step.new.self
-    c.if-not-step.ensures.unchanged c.loop-step-test.true held.ran held.steps c.if-not-step.ensures.unbuilt
-
-pub returns-then-not-step-clause-stopped_applied :
-    goal.returns-then-not-step-clause-stopped_applied
-returns-then-not-step-clause-stopped_applied c = rw c.if-not-step.ensures.unchanged
-    (split_count c.loop-step.self.state.core.steps c.args.events.now c.loop-step.applied c.loop-step.invariant.split)
-
-pub loop-step-preserved : goal.loop-step-preserved
-loop-step-preserved c =
-    let after = c.apply-applied-in-loop-step.ensures in
+pub loop-done-init : goal.loop-done-init
+loop-done-init c =
+    let after = c.apply-applied.ensures in
+    let first = after_events c.args.events.now c.args.self.now in
     record {
-      ran = steps_more board_rules on_board c.args.events.now run_policy c.loop-step._step (after_events c.args.events.now c.args.self.now)
-          c.loop-step.self c.step.new.self c.apply-applied-in-loop-step.new.self c.loop-step.invariant.ran c.if-not-step.ensures.made after.applied;
+      ran = subst (λ (x : Machine BoardState). StepsFor board_rules on_board c.args.events.now run_policy 0 first x) (sym after.applied) (steps_none board_rules on_board c.args.events.now run_policy first);
       split = after.split;
-      steps = omega (arith, after.steps, c.if-not-step.ensures.count, c.loop-step.invariant.steps);
+      steps = omega (arith, after.steps);
+      most = omega arith;
+    }
+
+pub steps_before_next-burst-requires : goal.steps_before_next-burst-requires
+steps_before_next-burst-requires c = record {
+  split = subst (λ (k : ℕ). Split (k + 1) (k + 1) c.args.events.now c.loop-done.applied) (sym c.steps.ensures) c.loop-done.invariant.split;
+  most = omega (arith, c.loop-done-test.true);
+}
+
+pub returns-then-not-advance-clause-stopped : goal.returns-then-not-advance-clause-stopped
+returns-then-not-advance-clause-stopped c =
+    let held = c.loop-done.invariant in
+    let next = c.steps_before_next-burst.ensures in
+    let stalls = c.if-not-advance.ensures.stopped in
+    let here = c.loop-done.self.state.core.steps in
+    let split : Split (here + 1) (here + c.steps_before_next-burst.result) c.args.events.now c.loop-done.applied = subst (λ (k : ℕ). Split (k + 1) (k + c.steps_before_next-burst.result) c.args.events.now c.loop-done.applied) c.steps.ensures next.split in
+    stops c.args.events.now c.args.steps (c.loop-done.done + stalls.done) c.args.self.now c.advance.new.self c.advance.new.self refl
+    (omega (arith, stalls.before, next.most, c.loop-done-test.true))
+    (steps_stalled c.args.events.now c.loop-done.done stalls.done (after_events c.args.events.now c.args.self.now) c.loop-done.self c.advance.new.self held.ran stalls.ran
+    (λ j p q. none_between (here + 1) (here + c.steps_before_next-burst.result) j c.args.events.now c.loop-done.applied split (omega (arith, p)) (omega (arith, q, stalls.before))))
+    (omega (arith, stalls.count, held.steps)) stalls.unbuilt
+
+pub returns-then-not-advance-clause-stopped_applied : goal.returns-then-not-advance-clause-stopped_applied
+returns-then-not-advance-clause-stopped_applied c =
+    let next = c.steps_before_next-burst.ensures in
+    let stalls = c.if-not-advance.ensures.stopped in
+    let here = c.loop-done.self.state.core.steps in
+    let now = c.advance.new.self.state.core.steps in
+    let split : Split (here + 1) (here + c.steps_before_next-burst.result) c.args.events.now c.loop-done.applied = subst (λ (k : ℕ). Split (k + 1) (k + c.steps_before_next-burst.result) c.args.events.now c.loop-done.applied) c.steps.ensures next.split in
+    split_count now c.args.events.now c.loop-done.applied
+    (split_between (here + 1) (now + 1) (here + c.steps_before_next-burst.result) (now + 1) c.args.events.now c.loop-done.applied split (omega (arith, stalls.count)) (omega (arith, stalls.count, stalls.before)))
+
+pub apply-applied-in-loop-done-requires : goal.apply-applied-in-loop-done-requires
+apply-applied-in-loop-done-requires c =
+    let next = c.steps_before_next-burst.ensures in
+    let here = c.loop-done.self.state.core.steps in
+    let now = c.advance.new.self.state.core.steps in
+    let split : Split (here + 1) (here + c.steps_before_next-burst.result) c.args.events.now c.loop-done.applied = subst (λ (k : ℕ). Split (k + 1) (k + c.steps_before_next-burst.result) c.args.events.now c.loop-done.applied) c.steps.ensures next.split in
+    split_between (here + 1) now (here + c.steps_before_next-burst.result) now c.args.events.now c.loop-done.applied split (omega (arith, c.if-not-advance.ensures.count, next.some)) (omega (arith, c.if-not-advance.ensures.count))
+
+pub loop-done-preserved : goal.loop-done-preserved
+loop-done-preserved c =
+    let held = c.loop-done.invariant in
+    let after = c.apply-applied-in-loop-done.ensures in
+    let next = c.steps_before_next-burst.ensures in
+    let here = c.loop-done.self.state.core.steps in
+    let split : Split (here + 1) (here + c.steps_before_next-burst.result) c.args.events.now c.loop-done.applied = subst (λ (k : ℕ). Split (k + 1) (k + c.steps_before_next-burst.result) c.args.events.now c.loop-done.applied) c.steps.ensures next.split in
+    record {
+      ran = steps_burst c.args.events.now c.loop-done.done c.steps_before_next-burst.result (after_events c.args.events.now c.args.self.now) c.loop-done.self c.advance.new.self c.apply-applied-in-loop-done.new.self
+          held.ran c.if-not-advance.ensures.made next.some
+          (λ j p q. none_between (here + 1) (here + c.steps_before_next-burst.result) j c.args.events.now c.loop-done.applied split (omega (arith, p)) q) after.applied;
+      split = after.split;
+      steps = omega (arith, after.steps, c.if-not-advance.ensures.count, held.steps);
+      most = omega (arith, next.most, c.loop-done-test.true);
     }
 
 pub returns-clause-ran : goal.returns-clause-ran
-returns-clause-ran c = subst (λ (k : ℕ). RanFor c.args.events.now k c.args.self.now c.loop-step.self) (omega (arith, c.loop-step-test.false, c.loop-step.auto._step-end))
-    (ran_for c.args.events.now c.loop-step._step c.args.self.now c.loop-step.self c.loop-step.invariant.ran)
+returns-clause-ran c = subst (λ (k : ℕ). RanFor c.args.events.now k c.args.self.now c.loop-done.self) (omega (arith, c.loop-done-test.false, c.loop-done.invariant.most))
+    (ran_for c.args.events.now c.loop-done.done c.args.self.now c.loop-done.self c.loop-done.invariant.ran)
 
 pub returns-clause-applied : goal.returns-clause-applied
-returns-clause-applied c = split_count c.loop-step.self.state.core.steps c.args.events.now c.loop-step.applied c.loop-step.invariant.split
+returns-clause-applied c = split_count c.loop-done.self.state.core.steps c.args.events.now c.loop-done.applied c.loop-done.invariant.split

@@ -7,7 +7,7 @@ use Rattle.operands.specs.Whole.{whole}
 use Rattle.cpu_core.specs.Plain.{IsPlain}
 use Rattle.cpu_core.specs.Window.{fault_of}
 use Rattle.cpu_core.proofs.Fetched.{started, narrow, takes, refuses, takes_same, refuses_same}
-use Rattle.cpu_core.proofs.decoding.decode.Goals as goal
+use Rattle.cpu_core.proofs.decoding.decode_far.Goals as goal
 
 pub returns-in-Ok-clause-found : goal.returns-in-Ok-clause-found
 returns-in-Ok-clause-found g c = λ flags.

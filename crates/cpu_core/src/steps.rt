@@ -1,0 +1,141 @@
+//! Steps, and passing over those in which nothing happens. Manual, chapters 9 and 10.
+
+ghost use Rattle.std.specs.Prelude.{◌≡◌, ◌<◌, ◌+◌, ◌-◌, ◌^◌, true};
+ghost use Rattle.std.specs.Bool.{OnTrue, OnFalse};
+ghost use Rattle.mdl_state.specs.Choices.{Meets};
+ghost use Rattle.mdl_state.specs.Serving.{Policy};
+ghost use Rattle.mem_iface.specs.Rules.{rules_of};
+ghost use Rattle.mdl_step.specs.Boundary as rows;
+ghost use Rattle.mdl_step.specs.Boundary.{boundary_rows};
+ghost use Rattle.mdl_step.specs.RunLaws.{SomeStep};
+ghost use Rattle.mdl_step.specs.Step.{IsUnbuilt, is_covered, row_of};
+ghost use Rattle.cpu_core.specs.Passing.{later};
+ghost use Rattle.cpu_core.specs.Rows.{told};
+ghost use Rattle.cpu_core.specs.Turns.{Turned};
+
+use crate::boundary::{Row, Turn, boundary, is_execution, is_idle, lets_in, runs_on};
+use crate::cpu::Cpu;
+use crate::execute::is_covered;
+use mdl_state::Activity;
+use mem_iface::{Linear, Ports};
+
+impl<L: Linear, P: Ports> Cpu<L, P> {
+    /// Whether the next step executes an instruction, by one look at what could come before it.
+    #[inline(always)]
+    fn is_usual(&self) -> bool
+        ensures covered { OnTrue result (is_covered self.now.state.core.regs ≡ true) }
+        ensures executes { OnTrue result (row_of (rules_of P.Ports) self.now ≡ rows.Execute) }
+    {
+        if !runs_on(self.activity, &self.latches) {
+            return false;
+        }
+        if !is_covered(&self.regs) {
+            return false;
+        }
+        if lets_in(&self.regs) {
+            return !self.ports.wants_interrupt();
+        }
+        true
+    }
+
+    /// The row of the next step, where no breakpoint is enabled.
+    #[inline(never)]
+    fn row(&self) -> Row
+        ensures { told result ≡ boundary_rows self.now.state.core.activity (P.wants self.now.board) 0 self.now.state.core.regs self.now.state.core.latches }
+    {
+        let wants = self.ports.wants_interrupt();
+        boundary(self.activity, wants, &self.regs, &self.latches)
+    }
+
+    /// Makes the next step, unless it executes an instruction.
+    #[inline(never)]
+    fn divert(&mut self) -> Turn
+        requires steps { self.old.state.core.steps < 2 ^ 64 - 1 }
+        requires a20 { P.gate self.old.board ≡ self.old.state.mem.physical.a20 }
+        ensures { Turned result (rules_of P.Ports) L.pick self.old self.new }
+    {
+        let next = self.row();
+        if is_idle(next) {
+            self.finish(false);
+            return Turn::Made;
+        }
+        if !is_covered(&self.regs) {
+            return Turn::Unbuilt;
+        }
+        if is_execution(next) {
+            return Turn::Executes;
+        }
+        self.take(next);
+        self.finish(false);
+        Turn::Made
+    }
+
+    /// The same, with the usual case in line.
+    #[inline(always)]
+    fn turn(&mut self) -> Turn
+        requires steps { self.old.state.core.steps < 2 ^ 64 - 1 }
+        requires a20 { P.gate self.old.board ≡ self.old.state.mem.physical.a20 }
+        ensures { Turned result (rules_of P.Ports) L.pick self.old self.new }
+    {
+        if self.is_usual() {
+            return Turn::Executes;
+        }
+        self.divert()
+    }
+
+    /// Makes a step of the written machine, for some choice whose items meet each policy that those of
+    /// the memory meet. Answers false where the next step is not built, and then changes nothing.
+    ///
+    /// The line A20 of the memory is that of the ports, before it and behind it.
+    #[inline(always)]
+    pub fn step(&mut self) -> bool
+        requires steps { self.old.state.core.steps < 2 ^ 64 - 1 }
+        requires a20 { P.gate self.old.board ≡ self.old.state.mem.physical.a20 }
+        ensures made { OnTrue result ((policy : Policy) → Meets L.pick policy → SomeStep (rules_of P.Ports) policy self.old self.new) }
+        ensures count { OnTrue result (self.new.state.core.steps ≡ self.old.state.core.steps + 1) }
+        ensures unbuilt { OnFalse result (IsUnbuilt (rules_of P.Ports) self.old) }
+        ensures unchanged { OnFalse result (self.new ≡ self.old) }
+        ensures a20 { P.gate self.new.board ≡ self.new.state.mem.physical.a20 }
+    {
+        match self.turn() {
+            Turn::Executes => {
+                let wrote = self.execute();
+                self.finish(wrote);
+                true
+            }
+            Turn::Made => true,
+            Turn::Unbuilt => false,
+        }
+    }
+
+    /// Passes over so many steps at once, where nothing happens in the next one, and so in none of them
+    /// as long as nothing comes from outside. Answers whether it did.
+    #[inline(never)]
+    fn idle(&mut self, steps: u64) -> bool
+        requires steps { self.old.state.core.steps + steps < 2 ^ 64 }
+        ensures idle { OnTrue result (row_of (rules_of P.Ports) self.old ≡ rows.Idle) }
+        ensures passed { OnTrue result (self.new ≡ later steps self.old) }
+        ensures unchanged { OnFalse result (self.new ≡ self.old) }
+    {
+        let next = self.row();
+        if is_idle(next) {
+            self.steps += steps;
+            return true;
+        }
+        false
+    }
+
+    /// The same, with the test for a processor that runs in line.
+    #[inline(always)]
+    pub fn pass(&mut self, steps: u64) -> bool
+        requires steps { self.old.state.core.steps + steps < 2 ^ 64 }
+        ensures idle { OnTrue result (row_of (rules_of P.Ports) self.old ≡ rows.Idle) }
+        ensures passed { OnTrue result (self.new ≡ later steps self.old) }
+        ensures unchanged { OnFalse result (self.new ≡ self.old) }
+    {
+        if let Activity::Running = self.activity {
+            return false;
+        }
+        self.idle(steps)
+    }
+}
