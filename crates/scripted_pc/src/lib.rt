@@ -6,6 +6,8 @@
 
 mod guest;
 #[cfg(test)]
+mod session_tests;
+#[cfg(test)]
 mod tests;
 
 pub use guest::Guest;
