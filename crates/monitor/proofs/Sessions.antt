@@ -1,5 +1,5 @@
 -- Lemmas on a session: the bytes that were taken, the lines that were answered, and the end.
-use Rattle.std.proofs.Common.{◌≡◌, ◌≢◌, ◌+◌, ◌⊎◌, ◌↔◌, ℕ, Bool, true, false, List, [], ◌∷◌, ◌++◌, length, Option, None, Some, Result, Ok, Err, OnOk, OnErr, IfErr, refl, ap, sym, subst, ◌∙◌, arith, inl, inr, length-append}
+use Rattle.std.proofs.Common.{◌≡◌, ◌≢◌, ◌<◌, ◌≤◌, ◌+◌, ◌⊎◌, ◌↔◌, ℕ, Bool, true, false, List, [], ◌∷◌, ◌++◌, length, Option, None, Some, Result, Ok, Err, OnOk, OnErr, IfErr, refl, ap, sym, subst, ◌∙◌, arith, inl, inr, length-append}
 use Rattle.std.proofs.KnownBytes.{Appends-nil, Appends-trans, Consumes-nil, Consumes-trans, Consumes-kept, prepend_known-nil}
 use Rattle.std.proofs.lemmas.List.{append_assoc, append-nil}
 use Rattle.std.specs.Io.KnownBytes.{Appends, Consumes, IsAtEnd, Keeps, prepend_known}
@@ -21,7 +21,7 @@ use Rattle.monitor.specs.declared.session.Broken.{Broken}
 use Rattle.monitor.specs.declared.session.Broken.TheVariants as ends
 use Rattle.monitor.specs.Answers.{Shows, goes_on}
 use Rattle.monitor.specs.LineSteps.{AnswersWhole, AnswersSome, AnswersLast}
-use Rattle.monitor.specs.Session.{AnswersLine, AnswersLines, Answered, IsSession, IsBegun, IsBrokenOff, IsTooLong, IsBroken, most_commands}
+use Rattle.monitor.specs.Session.{AnswersLine, AnswersLines, Answered, EndsBetween, IsSession, IsBegun, IsBrokenOff, IsTooLong, IsBroken, most_commands}
 use Rattle.monitor.specs.Unread.{IsNext}
 
 -- ---- lines
@@ -180,9 +180,9 @@ same_end before between after text more one two none =
 
 -- `q`, with its line feed or at the end
 quitted : KeptAsks → (events : List Event) (start mid n : Machine BoardState) (stops line now : List ℕ) (left left_now before between after : Option (List ℕ)) (count : ℕ) (rest : List ℕ)
-    → (held : Underway events start mid stops line left left_now before between count) → IsWhole left (held.bytes ++ rest) → ((rest ≡ []) ⊎ ((more : List ℕ) × (rest ≡ 10 ∷ more)))
+    → (held : Underway events start mid stops line left left_now before between count) → IsWhole left (held.bytes ++ rest) → EndsBetween held.bytes rest
     → AnswersWhole events (text_of line) false mid stops n now between after → IsSession events start n left before after
-quitted asks events start mid n stops line now left left_now before between after count rest held whole behind answer =
+quitted asks events start mid n stops line now left left_now before between after count rest held whole ends answer =
     let (is, same, empty) = quits events (text_of held.last) mid stops n now answer.text (said asks events start mid n stops line now left left_now before between count false answer.text held answer.answer) in
     record {
       input = held.bytes ++ rest;
@@ -192,7 +192,7 @@ quitted asks events start mid n stops line now left left_now before between afte
         bytes = held.bytes;
         rest = rest;
         whole = refl;
-        behind = behind;
+        ends = ends;
         quit = held.last;
         is_quit = is;
         stops = stops;
@@ -202,27 +202,31 @@ quitted asks events start mid n stops line now left left_now before between afte
     }
 
 pub quit_line : KeptAsks → (events : List Event) (start mid n : Machine BoardState) (stops line now : List ℕ) (left left_now left_next before between after : Option (List ℕ)) (count : ℕ) (on : Bool) → on ≡ false
-    → Underway events start mid stops line left left_now before between count → Consumes left_now left_next (10 ∷ []) → AnswersWhole events (text_of line) on mid stops n now between after → IsSession events start n left before after
-quit_line asks events start mid n stops line now left left_now left_next before between after count on ends held next answer =
+    → count < most_commands → Underway events start mid stops line left left_now before between count → Consumes left_now left_next (10 ∷ []) → AnswersWhole events (text_of line) on mid stops n now between after → IsSession events start n left before after
+quit_line asks events start mid n stops line now left left_now left_next before between after count on ends few held next answer =
     let whole = front left left_next (held.bytes ++ 10 ∷ []) (Consumes-trans left left_now left_next held.bytes (10 ∷ []) held.consumed next) in
     quitted asks events start mid n stops line now left left_now before between after count (10 ∷ whole.0) held
-    (subst (IsWhole left) (append_assoc held.bytes (10 ∷ []) whole.0) whole.1) (inr (whole.0, refl))
+    (subst (IsWhole left) (append_assoc held.bytes (10 ∷ []) whole.0) whole.1) (inr (whole.0, refl, (let is = held.count_is in omega (arith, is, few))))
     (subst (λ (b : Bool). AnswersWhole events (text_of line) b mid stops n now between after) ends answer)
 
 -- the end of the input
-pub ended_by : KeptAsks → (events : List Event) (start mid n : Machine BoardState) (stops line now : List ℕ) (left left_now left_next before between after : Option (List ℕ)) (count : ℕ)
+pub ended_by : KeptAsks → (events : List Event) (start mid n : Machine BoardState) (stops line now : List ℕ) (left left_now left_next before between after : Option (List ℕ)) (count : ℕ) → count ≤ most_commands
     → Underway events start mid stops line left left_now before between count → Consumes left_now left_next [] × IsAtEnd left_next → AnswersLast events line mid stops n now between after → IsSession events start n left before after
-ended_by asks events start mid n stops line now left left_now left_next before between after count held (next, none) answer =
+ended_by asks events start mid n stops line now left left_now left_next before between after count few held (next, none) answer =
     let read = subst (Consumes left left_next) (append-nil held.bytes) (Consumes-trans left left_now left_next held.bytes [] held.consumed next) in
     let whole = all_read left left_next held.bytes read none in
     at_end answer whole
   where
+    within : length held.bytes ≤ most_commands
+    within = let is = held.count_is in omega (arith, is, few)
+
     open_end : (on : Bool) → IsWhole left held.bytes → (line ≢ []) → AnswersWhole events (text_of line) on mid stops n now between after → IsSession events start n left before after
     open_end true whole some answer = record {
       input = held.bytes;
       whole = whole;
       text = held.text ++ answer.text;
       session = inr (inr (record {
+        within = within;
         last = held.last;
         some = (λ is. some (held.kept_is ∙ ap kept is));
         mid = mid;
@@ -237,7 +241,7 @@ ended_by asks events start mid n stops line now left left_now left_next before b
       report = Appends-trans before between after held.text answer.text held.report answer.report;
     }
     open_end false whole some answer =
-        quitted asks events start mid n stops line now left left_now before between after count [] held (subst (IsWhole left) (sym (append-nil held.bytes)) whole) (inl refl) answer
+        quitted asks events start mid n stops line now left left_now before between after count [] held (subst (IsWhole left) (sym (append-nil held.bytes)) whole) (inl (refl, within)) answer
 
     at_end : AnswersLast events line mid stops n now between after → IsWhole left held.bytes → IsSession events start n left before after
     at_end (inl (none, same, still, report)) whole = record {
@@ -245,6 +249,7 @@ ended_by asks events start mid n stops line now left left_now left_next before b
       whole = whole;
       text = held.text;
       session = inr (inl (record {
+        within = within;
         stops = stops;
         answered = subst (λ (xs : List ℕ). Answered events start held.bytes n stops xs held.text) (kept_none held.last (sym held.kept_is ∙ none))
             (subst (λ (x : Machine BoardState). Answered events start held.bytes x stops held.last held.text) (sym same) held.answered);
@@ -310,17 +315,18 @@ too_long events start n stops line left left_now left_next before now count byte
     consumed = held.consumed;
     report = held.report;
   };
+  count = held.count_is ∙ all;
 }
 
 -- ---- what a call answers
 
 -- at the end of the input
 pub session_end : {T E : Type 0} (r : Result T E) → KeptAsks → (events others : List Event) (start mid n : Machine BoardState) (stops line now : List ℕ) (left left_now left_next before between after after_read : Option (List ℕ)) (count : ℕ) (next : Option ℕ)
-    → others ≡ events → Underway events start mid stops line left left_now before between count → IsNext next left_now left_next → next ≡ None → after_read ≡ between
+    → count ≤ most_commands → others ≡ events → Underway events start mid stops line left left_now before between count → IsNext next left_now left_next → next ≡ None → after_read ≡ between
     → OnOk r (AnswersLast others line mid stops n now after_read after) → OnOk r (IsSession events start n left before after)
-session_end (Err e) asks events others start mid n stops line now left left_now left_next before between after after_read count next same held taken none kept answer = tt
-session_end (Ok x) asks events others start mid n stops line now left left_now left_next before between after after_read count next same held taken none kept answer =
-    ended_by asks events start mid n stops line now left left_now left_next before between after count held
+session_end (Err e) asks events others start mid n stops line now left left_now left_next before between after after_read count next few same held taken none kept answer = tt
+session_end (Ok x) asks events others start mid n stops line now left left_now left_next before between after after_read count next few same held taken none kept answer =
+    ended_by asks events start mid n stops line now left left_now left_next before between after count few held
     (subst (λ (o : Option ℕ). IsNext o left_now left_next) none taken)
     (subst (λ (t : Option (List ℕ)). AnswersLast events line mid stops n now t after) kept (subst (λ (es : List Event). AnswersLast es line mid stops n now after_read after) same answer))
 

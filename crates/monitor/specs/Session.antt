@@ -1,5 +1,5 @@
 -- A session: the lines of the input, each answered before more of it is read, up to `q` or the end. Own: The lines of the monitor
-use Rattle.std.specs.Prelude.{◌≡◌, ◌≢◌, ◌⊎◌, ◌^◌, ℕ, Bool, true, List, [], ◌∷◌, ◌++◌, Option, codes}
+use Rattle.std.specs.Prelude.{◌≡◌, ◌≢◌, ◌⊎◌, ◌<◌, ◌≤◌, ◌^◌, ℕ, Bool, true, List, [], ◌∷◌, ◌++◌, length, Option, codes}
 use Rattle.std.specs.Io.KnownBytes.{Appends, Consumes}
 use Rattle.host_io.specs.declared.host.InSlot.TheVariants.{Commands}
 use Rattle.host_io.specs.declared.host.OutSlot.TheVariants as outputs
@@ -46,19 +46,24 @@ pub record Answered (events : List Event) (start : Machine BoardState) (bytes : 
 
 -- ---- the end of a session
 
+-- so many bytes are read at most
+abbrev pub most_commands : ℕ
+most_commands = 2 ^ 24
+
 abbrev pub IsQuit : List ℕ → Type 0
 IsQuit line = IsCommand (text_of line) Quit
 
--- a line ends before these bytes: it has a line feed, or they are the end
-abbrev pub IsBehind : List ℕ → Type 0
-IsBehind rest = (rest ≡ []) ⊎ ((more : List ℕ) × (rest ≡ line_feed ∷ more))
+-- a line ends between these bytes, at the end of the input or by a line feed, which is one of those that are read
+abbrev pub EndsBetween : List ℕ → List ℕ → Type 0
+EndsBetween bytes rest =
+    ((rest ≡ []) × (length bytes ≤ most_commands)) ⊎ ((more : List ℕ) × (rest ≡ line_feed ∷ more) × (length bytes < most_commands))
 
 -- behind the lines that are answered stands `q`, and whatever stands behind it is no matter
 pub record EndsByQuit (events : List Event) (start : Machine BoardState) (input : List ℕ) (n : Machine BoardState) (text : List ℕ) : Type 0 where
   pub bytes : List ℕ
   pub rest : List ℕ
   pub whole : input ≡ bytes ++ rest
-  pub behind : IsBehind rest
+  pub ends : EndsBetween bytes rest
   pub quit : List ℕ
   pub is_quit : IsQuit quit
   pub stops : List ℕ
@@ -66,11 +71,13 @@ pub record EndsByQuit (events : List Event) (start : Machine BoardState) (input 
 
 -- all lines are answered
 pub record EndsWhole (events : List Event) (start : Machine BoardState) (input : List ℕ) (n : Machine BoardState) (text : List ℕ) : Type 0 where
+  pub within : length input ≤ most_commands
   pub stops : List ℕ
   pub answered : Answered events start input n stops [] text
 
 -- all lines are answered, of which the last has no end
 pub record EndsOpen (events : List Event) (start : Machine BoardState) (input : List ℕ) (n : Machine BoardState) (text : List ℕ) : Type 0 where
+  pub within : length input ≤ most_commands
   pub last : List ℕ
   pub some : last ≢ []
   pub mid : Machine BoardState
@@ -124,15 +131,12 @@ pub record IsBrokenOff (events : List Event) (start n : Machine BoardState) (lef
   pub report : Appends before between text
   pub part : AppendsPrefix between now more
 
--- so many bytes are read at most
-abbrev pub most_commands : ℕ
-most_commands = 2 ^ 24
-
--- the input has more, and no `q` among the lines that end in the first ones
+-- the input has more bytes than are read, and the lines that end in these are answered, none of them `q`
 pub record IsTooLong (events : List Event) (start n : Machine BoardState) (left before now : Option (List ℕ)) : Type 0 where
   pub over : IsOver most_commands left
   pub rest : Option (List ℕ)
   pub begun : IsBegun events start n left rest before now
+  pub count : length begun.bytes ≡ most_commands
 
 -- how a session ends before `q` and before the end of the input
 abbrev pub IsBroken : Broken → List Event → Machine BoardState → Machine BoardState → Option (List ℕ) → Option (List ℕ) → Option (List ℕ) → Option (List ℕ) → Type 0

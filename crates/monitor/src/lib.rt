@@ -29,6 +29,6 @@ pub use answers::answer;
 pub use line_buffer::LineBuffer;
 pub use lines::{NotACommand, read_line};
 pub use mdl_text::Command;
-pub use session::{Broken, converse};
+pub use session::{Broken, MOST_COMMANDS, converse};
 pub use stops::Breaks;
 pub use target::Target;

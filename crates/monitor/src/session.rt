@@ -20,8 +20,8 @@ use crate::target::Target;
 use host_io::{Failed, Host, OutSlot, write_all};
 use mdl_text::a_line_is_kept_as_far_as_it_matters;
 
-/// How many bytes the input may have.
-const MOST_COMMANDS: u32 = 0x1000000;
+/// The most bytes of commands.
+pub const MOST_COMMANDS: u32 = 0x1000000;
 
 /// Why a session ended before `q` and before the end of the input.
 #[derive(Clone, Copy, Debug, PartialEq, Eq)]

@@ -35,7 +35,7 @@ returns-in-Ok-false-clause-session g c =
     let taken = subst (λ (o : Option ℕ). IsNext o left_now left_next) c.in-Some.is c.in-Ok.ensures.next in
     let byte = c.if-byte-ne10.false in
     let fed = subst (λ (b : ℕ). Consumes left_now left_next (b ∷ [])) byte taken in
-    quit_line asks events start mid n stops line now left left_now left_next before between after c.loop-taken._taken c.in-Ok-false.field-0 c.in-Ok-false.field-0-test held.underway fed
+    quit_line asks events start mid n stops line now left left_now left_next before between after c.loop-taken._taken c.in-Ok-false.field-0 c.in-Ok-false.field-0-test (omega (arith, c.loop-taken-test.true, c.loop-taken.auto._taken-end)) held.underway fed
     (subst (λ (t : Option (List ℕ)). AnswersWhole events (text_of line) c.in-Ok-false.field-0 mid stops n now t after) (c.next.ensures.took Report)
     (subst (λ (es : List Event). AnswersWhole es (text_of line) c.in-Ok-false.field-0 mid stops n now read after) held.script c.in-Ok-false.ensures.ok))
 
@@ -94,7 +94,7 @@ returns-in_default-next-clause-session g c =
     let after = g.H.Host.took c.end.new.host Report in
     let asks = c.a_line_is_kept_as_far_as_it_matters.ensures.asks in
     session_end c.end.result asks events (g.T.Target.script c.loop-taken.target) start mid n stops line now left left_now left_next before between after read c.loop-taken._taken c.in-Ok.next
-    held.script held.underway c.in-Ok.ensures.next c.in_default-next.is (c.next.ensures.took Report) c.end.ensures.ok
+    (omega (arith, c.loop-taken-test.true, c.loop-taken.auto._taken-end)) held.script held.underway c.in-Ok.ensures.next c.in_default-next.is (c.next.ensures.took Report) c.end.ensures.ok
 
 pub returns-in_default-next-clause-broken : goal.returns-in_default-next-clause-broken
 returns-in_default-next-clause-broken g c =
@@ -136,7 +136,7 @@ returns-in-Ok-None-clause-session g c =
     let after = g.H.Host.took c.end-in-Ok-None.new.host Report in
     let asks = c.a_line_is_kept_as_far_as_it_matters.ensures.asks in
     session_end c.end-in-Ok-None.result asks events (g.T.Target.script c.loop-taken.target) start mid n stops line now left left_now left_next before between after read c.loop-taken._taken c.in-Ok-None.field-0
-    held.script held.underway c.in-Ok-None.ensures.next c.in-Ok-None.field-0-is (c.next-2.ensures.took Report) c.end-in-Ok-None.ensures.ok
+    (omega (arith, c.loop-taken-test.false, c.loop-taken.auto._taken-end)) held.script held.underway c.in-Ok-None.ensures.next c.in-Ok-None.field-0-is (c.next-2.ensures.took Report) c.end-in-Ok-None.ensures.ok
 
 pub returns-in-Ok-None-clause-broken : goal.returns-in-Ok-None-clause-broken
 returns-in-Ok-None-clause-broken g c =
