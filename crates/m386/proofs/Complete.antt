@@ -7,7 +7,7 @@ use Rattle.host_io.specs.declared.host.Slot.{Slot}
 use Rattle.host_io.specs.declared.host.Slot.TheVariants.{In, Out}
 use Rattle.host_io.specs.Causes.{Rose}
 use Rattle.host_io.specs.Slots.{SameBut}
-use Rattle.host_io.specs.Transfers.{IsWhole}
+use Rattle.host_io.specs.Transfers.{IsWhole, IsOver}
 use Rattle.command_words.specs.Jobs.{Machine, RunJob, Job, Run, Dis, Demo, Monitor, Matched}
 use Rattle.mdl_state.specs.declared.Event.{Event}
 use Rattle.mdl_state.specs.Memory.{IsRomLength}
@@ -15,17 +15,18 @@ use Rattle.mdl_step.specs.Computer.{board_rules, on_board, powered, run_policy}
 use Rattle.mdl_step.specs.Run.{ReachesUnbuilt}
 use Rattle.mdl_text.specs.ScriptLaws.{none_bad, one_script}
 use Rattle.mdl_text.specs.Script as texts
+use Rattle.monitor.specs.Session.{most_commands}
 use Rattle.m386.specs.declared.refusals.Refusal.{Refusal}
 use Rattle.m386.specs.declared.refusals.Refusal.TheVariants as refusals
 use Rattle.m386.specs.declared.status.Status.{Status}
 use Rattle.m386.specs.declared.status.Status.TheVariants.{Done, Memory}
 use Rattle.m386.specs.Slots.{Left, Took, Counts, input_path}
-use Rattle.m386.specs.Inputs.{Fed, IsFed, IsFit, IsInput, IsLength, IsAccepted, limit_of}
+use Rattle.m386.specs.Inputs.{Fed, IsFed, IsFit, IsInput, IsLength, IsAccepted, IsScriptWrong, limit_of}
 use Rattle.m386.specs.Listed.{IsRom}
 use Rattle.m386.specs.Refusals.{status_of}
-use Rattle.m386.specs.Causes.{OnlyRose, AreCounted, IsJobLengthWrong, IsJobScriptWrong, IsUnbuilt}
+use Rattle.m386.specs.Causes.{OnlyRose, AreCounted, IsJobLengthWrong, IsJobScriptWrong, IsUnbuilt, IsJobOverlong}
 use Rattle.m386.proofs.Slots.{grown}
-use Rattle.m386.specs.Answers.{Accepts, Tells, SomeRose, IsServed, IsEnded}
+use Rattle.m386.specs.Answers.{Accepts, Tells, SomeRose, IsEnded}
 
 -- ---- inputs
 
@@ -84,26 +85,22 @@ fed_same m left a b told is_a is_b =
 
 -- ---- jobs
 
-served : (job : Job) (left : Left) → Accepts job left → IsServed job
-served (Run job) left accepts = tt
-served (Dis job) left accepts = tt
-served (Demo number) left accepts = tt
-served (Monitor machine) left accepts = absurd accepts
-
 right_length : (job : Job) (left : Left) (slot : InSlot) (n : ℕ) → Tells left → Accepts job left → IsJobLengthWrong job left slot n → ⊥
 right_length (Run job) left slot n told accepts wrong = fed_length job.machine left accepts.0 slot wrong.path n told accepts.1 wrong.named wrong.told wrong.wrong
 right_length (Dis job) left slot n told accepts wrong = wrong.2 (fits_told Rom (left Rom) accepts.0 n (told Rom) accepts.1.whole accepts.1.size wrong.1)
 right_length (Demo number) left slot n told accepts wrong = wrong
-right_length (Monitor machine) left slot n told accepts wrong = accepts
+right_length (Monitor machine) left slot n told accepts wrong = fed_length machine left accepts.0 slot wrong.path n told accepts.1 wrong.named wrong.told wrong.wrong
+
+script_read : (m : Machine) (left : Left) (fed : Fed) (n : ℕ) → Tells left → IsFed m left fed → IsScriptWrong m left n → ⊥
+script_read m left fed n told is wrong =
+    let same : wrong.script ≡ is.script = same_input (input_path m Script) (left Script) wrong.script is.script (told Script) wrong.read.whole is.read.whole in
+    none_bad is.script fed.events n is.events (subst (λ s. texts.IsFirstBad s n) same wrong.bad)
 
 right_script : (job : Job) (left : Left) (n : ℕ) → Tells left → Accepts job left → IsJobScriptWrong job left n → ⊥
-right_script (Run job) left n told accepts wrong =
-    let is = accepts.1 in
-    let same : wrong.script ≡ is.script = same_input (input_path job.machine Script) (left Script) wrong.script is.script (told Script) wrong.read.whole is.read.whole in
-    none_bad is.script accepts.0.events n is.events (subst (λ s. texts.IsFirstBad s n) same wrong.bad)
+right_script (Run job) left n told accepts wrong = script_read job.machine left accepts.0 n told accepts.1 wrong
 right_script (Dis job) left n told accepts wrong = wrong
 right_script (Demo number) left n told accepts wrong = wrong
-right_script (Monitor machine) left n told accepts wrong = wrong
+right_script (Monitor machine) left n told accepts wrong = script_read machine left accepts.0 n told accepts.1 wrong
 
 all_built : (job : Job) (left : Left) (steps byte : ℕ) → Tells left → Accepts job left → IsUnbuilt job left steps byte → ⊥
 all_built (Run job) left steps byte told accepts unbuilt =
@@ -113,6 +110,16 @@ all_built (Dis job) left steps byte told accepts unbuilt = unbuilt
 all_built (Demo number) left steps byte told accepts unbuilt = accepts unbuilt.reaches
 all_built (Monitor machine) left steps byte told accepts unbuilt = unbuilt
 
+over_fits : (left : Option (List ℕ)) (bytes : List ℕ) → left ≢ None → IsWhole left bytes → IsFit Commands (length bytes) → IsOver most_commands left → ⊥
+over_fits None bytes told whole fits over = told refl
+over_fits (Some xs) bytes told whole fits over = let lengths : length bytes ≡ length xs = ap length whole in omega (arith, lengths, fits, over)
+
+right_commands : (job : Job) (left : Left) (t0 t1 : Took) → Tells left → Accepts job left → IsJobOverlong job left t0 t1 → ⊥
+right_commands (Run job) left t0 t1 told accepts over = over
+right_commands (Dis job) left t0 t1 told accepts over = over
+right_commands (Demo number) left t0 t1 told accepts over = over
+right_commands (Monitor machine) left t0 t1 told accepts over = over_fits (left Commands) accepts.2 (told Commands) accepts.3 accepts.4 over.session.over
+
 -- ---- counts
 
 rose_still : (f g h : Counts) (slot : Slot) → OnlyRose slot f g → SameBut (Out Report) g h → g (Out Report) ≤ h (Out Report) → SomeRose f h
@@ -120,17 +127,20 @@ rose_still f g h slot only same later = let up = grown g h same later slot in (s
 
 -- ---- the answer
 
-pub completed : (words : List (List ℕ)) (left : Left) (t0 t1 : Took) (f g h : Counts) (asked : Job) (refusal : Refusal) (status : Status)
-    → IsEnded words left t0 t1 refusal → AreCounted refusal f g → status ≡ status_of refusal
+pub completed : (words : List (List ℕ)) (left left_now : Left) (t0 t1 : Took) (f g h : Counts) (asked : Job) (refusal : Refusal) (status : Status)
+    → IsEnded words left left_now t0 t1 refusal → AreCounted refusal f g → status ≡ status_of refusal
     → Matched words asked → Accepts asked left → Tells left → ¬ (SomeRose f h) → SameBut (Out Report) g h → g (Out Report) ≤ h (Out Report)
     → (status ≡ Done) ⊎ (status ≡ Memory)
-completed words left t0 t1 f g h asked refusals.Memory status e counted is matched accepts told calm same later = inr is
-completed words left t0 t1 f g h asked refusals.Words status e counted is matched accepts told calm same later = absurd (e.0 asked (served asked left accepts) matched)
-completed words left t0 t1 f g h asked (refusals.HostFault slot) status e counted is matched accepts told calm same later = absurd (calm (rose_still f g h slot counted same later))
-completed words left t0 t1 f g h asked (refusals.Length slot n) status e counted is matched accepts told calm same later =
+completed words left left_now t0 t1 f g h asked refusals.Memory status e counted is matched accepts told calm same later = inr is
+completed words left left_now t0 t1 f g h asked refusals.Words status e counted is matched accepts told calm same later = absurd (e.0 asked matched)
+completed words left left_now t0 t1 f g h asked (refusals.HostFault slot) status e counted is matched accepts told calm same later = absurd (calm (rose_still f g h slot counted same later))
+completed words left left_now t0 t1 f g h asked (refusals.Length slot n) status e counted is matched accepts told calm same later =
     absurd (right_length e.job left slot n told (subst (λ j. Accepts j left) (e.asks.only asked matched) accepts) e.refused.0)
-completed words left t0 t1 f g h asked (refusals.Script n) status e counted is matched accepts told calm same later =
+completed words left left_now t0 t1 f g h asked (refusals.Script n) status e counted is matched accepts told calm same later =
     absurd (right_script e.job left n told (subst (λ j. Accepts j left) (e.asks.only asked matched) accepts) e.refused.0)
-completed words left t0 t1 f g h asked (refusals.Unbuilt steps byte) status e counted is matched accepts told calm same later =
+completed words left left_now t0 t1 f g h asked (refusals.Unbuilt steps byte) status e counted is matched accepts told calm same later =
     absurd (all_built e.job left steps byte told (subst (λ j. Accepts j left) (e.asks.only asked matched) accepts) e.refused.0)
-completed words left t0 t1 f g h asked (refusals.Late slot) status e counted is matched accepts told calm same later = absurd (calm (rose_still f g h (Out slot) counted same later))
+completed words left left_now t0 t1 f g h asked (refusals.Late slot) status e counted is matched accepts told calm same later = absurd (calm (rose_still f g h (Out slot) counted same later))
+completed words left left_now t0 t1 f g h asked refusals.Commands status e counted is matched accepts told calm same later = absurd (calm (rose_still f g h (In Commands) counted same later))
+completed words left left_now t0 t1 f g h asked refusals.TooLong status e counted is matched accepts told calm same later =
+    absurd (right_commands e.job left t0 t1 told (subst (λ j. Accepts j left) (e.asks.only asked matched) accepts) e.refused)

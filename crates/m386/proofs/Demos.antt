@@ -56,27 +56,29 @@ demo_result (Ok x) number t0 t1 p0 p1 last to report others opened but = record 
 demo_result (Err e) number t0 t1 p0 p1 last to report others opened but = tt
 
 -- why the report of a demo is not written
-demo_cut : (number : ℕ) (left : Left) (t0 t1 : Took) (last : Machine BoardState) (refusal : Refusal) → RanTo demo_ram (demo_fed number) demo_steps last
-    → IsReportRefused (report_of last last.state.mem.walks) (t0 Report) (t1 Report) refusal → SameBut Report t0 t1 → IsRefused (jobs.Demo number) left t0 t1 refusal
-demo_cut number left t0 t1 last refusals.Memory to refused others = absurd refused
-demo_cut number left t0 t1 last refusals.Words to refused others = refused
-demo_cut number left t0 t1 last (refusals.HostFault slot) to refused others = same
+demo_cut : (number : ℕ) (left left_now : Left) (t0 t1 : Took) (last : Machine BoardState) (refusal : Refusal) → RanTo demo_ram (demo_fed number) demo_steps last
+    → IsReportRefused (report_of last last.state.mem.walks) (t0 Report) (t1 Report) refusal → SameBut Report t0 t1 → IsRefused (jobs.Demo number) left left_now t0 t1 refusal
+demo_cut number left left_now t0 t1 last refusals.Memory to refused others = absurd refused
+demo_cut number left left_now t0 t1 last refusals.Words to refused others = refused
+demo_cut number left left_now t0 t1 last (refusals.HostFault slot) to refused others = (tt, same)
   where
     same : (slot : OutSlot) → t1 slot ≡ t0 slot
     same Report = refused.1
     same Mem = others Mem (λ is. cc)
     same Save = others Save (λ is. cc)
-demo_cut number left t0 t1 last (refusals.Length slot n) to refused others = absurd refused
-demo_cut number left t0 t1 last (refusals.Script n) to refused others = absurd refused
-demo_cut number left t0 t1 last (refusals.Unbuilt steps byte) to refused others = absurd refused
-demo_cut number left t0 t1 last (refusals.Late slot) to refused others = record {
+demo_cut number left left_now t0 t1 last (refusals.Length slot n) to refused others = absurd refused
+demo_cut number left left_now t0 t1 last (refusals.Script n) to refused others = absurd refused
+demo_cut number left left_now t0 t1 last (refusals.Unbuilt steps byte) to refused others = absurd refused
+demo_cut number left left_now t0 t1 last refusals.Commands to refused others = refused
+demo_cut number left left_now t0 t1 last refusals.TooLong to refused others = refused
+demo_cut number left left_now t0 t1 last (refusals.Late slot) to refused others = record {
   is_report = refused.0;
   ran = to.ran;
   report = subst (λ (text : List ℕ). AppendsPrefix (t0 Report) (t1 Report) text) (report_same number last to) refused.1;
   others = others;
 }
 
-pub demo_refused : {T : Type 0} (r : Result T Refusal) (number : ℕ) (left : Left) (t0 t1 : Took) (last : Machine BoardState) → RanTo demo_ram (demo_fed number) demo_steps last
-    → IfErr r (IsReportRefused (report_of last last.state.mem.walks) (t0 Report) (t1 Report)) → SameBut Report t0 t1 → IfErr r (IsRefused (jobs.Demo number) left t0 t1)
-demo_refused (Ok x) number left t0 t1 last to refused others = tt
-demo_refused (Err refusal) number left t0 t1 last to refused others = demo_cut number left t0 t1 last refusal to refused others
+pub demo_refused : {T : Type 0} (r : Result T Refusal) (number : ℕ) (left left_now : Left) (t0 t1 : Took) (last : Machine BoardState) → RanTo demo_ram (demo_fed number) demo_steps last
+    → IfErr r (IsReportRefused (report_of last last.state.mem.walks) (t0 Report) (t1 Report)) → SameBut Report t0 t1 → IfErr r (IsRefused (jobs.Demo number) left left_now t0 t1)
+demo_refused (Ok x) number left left_now t0 t1 last to refused others = tt
+demo_refused (Err refusal) number left left_now t0 t1 last to refused others = demo_cut number left left_now t0 t1 last refusal to refused others

@@ -55,6 +55,8 @@ input_refused m l0 l1 slot (refusals.Length other n) before same is refused = su
 input_refused m l0 l1 slot (refusals.Script n) before same is refused = absurd refused
 input_refused m l0 l1 slot (refusals.Unbuilt steps byte) before same is refused = refused
 input_refused m l0 l1 slot (refusals.Late other) before same is refused = refused
+input_refused m l0 l1 slot refusals.Commands before same is refused = refused
+input_refused m l0 l1 slot refusals.TooLong before same is refused = refused
 
 -- the events are refused
 pub events_refused : (m : Machine) (l0 : Left) (rom disk script : List ℕ) (refusal : Refusal) → AreRead m l0 rom disk script → IsLinesRefused script refusal → IsFeedRefused m l0 refusal
@@ -70,3 +72,5 @@ events_refused m l0 rom disk script (refusals.Script n) are refused = record {
 }
 events_refused m l0 rom disk script (refusals.Unbuilt steps byte) are refused = refused
 events_refused m l0 rom disk script (refusals.Late slot) are refused = refused
+events_refused m l0 rom disk script refusals.Commands are refused = refused
+events_refused m l0 rom disk script refusals.TooLong are refused = refused

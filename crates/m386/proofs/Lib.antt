@@ -6,3 +6,4 @@ pub mod Runs
 pub mod Ending
 pub mod Complete
 pub mod Demos
+pub mod Monitors

@@ -1,5 +1,6 @@
 -- Lemmas on which outputs a refusal finds opened.
 use Rattle.std.proofs.Common.{◌≡◌, ◌≢◌, List, Result, Ok, Err, IfErr, refl, ◌∙◌}
+use Rattle.host_io.specs.declared.host.InSlot.TheVariants.{Commands}
 use Rattle.host_io.specs.declared.host.OutSlot.{OutSlot}
 use Rattle.host_io.specs.declared.host.OutSlot.TheVariants.{Report, Mem, Save}
 use Rattle.host_io.specs.declared.host.Slot.{Slot}
@@ -44,6 +45,8 @@ none_up_to (refusals.Length slot n) p0 p1 none = none
 none_up_to (refusals.Script n) p0 p1 none = none
 none_up_to (refusals.Unbuilt steps byte) p0 p1 none = none
 none_up_to (refusals.Late slot) p0 p1 none = none_behind (Out slot) p0 p1 none
+none_up_to refusals.Commands p0 p1 none = none_behind (In Commands) p0 p1 none
+none_up_to refusals.TooLong p0 p1 none = none_behind (In Commands) p0 p1 none
 
 pub none_result : {T : Type 0} (r : Result T Refusal) (p0 p1 : Paths) → NoneOpened p0 p1 → IfErr r (λ refusal. IsOpenedUpTo refusal p0 p1)
 none_result (Ok x) p0 p1 none = tt
@@ -57,6 +60,8 @@ up_to_from (refusals.Length slot n) p0 p1 p2 none up = λ other. up other ∙ no
 up_to_from (refusals.Script n) p0 p1 p2 none up = λ slot. up slot ∙ none slot
 up_to_from (refusals.Unbuilt steps byte) p0 p1 p2 none up = λ slot. up slot ∙ none slot
 up_to_from (refusals.Late slot) p0 p1 p2 none up = behind_from (Out slot) p0 p1 p2 none up
+up_to_from refusals.Commands p0 p1 p2 none up = behind_from (In Commands) p0 p1 p2 none up
+up_to_from refusals.TooLong p0 p1 p2 none up = behind_from (In Commands) p0 p1 p2 none up
 
 pub up_to_result : {T : Type 0} (r : Result T Refusal) (p0 p1 p2 : Paths) → NoneOpened p0 p1 → IfErr r (λ refusal. IsOpenedUpTo refusal p1 p2) → IfErr r (λ refusal. IsOpenedUpTo refusal p0 p2)
 up_to_result (Ok x) p0 p1 p2 none up = tt
@@ -73,6 +78,8 @@ unwritten (refusals.Length slot n) status p0 p1 p2 up but is calm = behind_then 
 unwritten (refusals.Script n) status p0 p1 p2 up but is calm = behind_then (Out Report) p0 p1 p2 (none_behind (Out Report) p0 p1 up) but
 unwritten (refusals.Unbuilt steps byte) status p0 p1 p2 up but is calm = behind_then (Out Report) p0 p1 p2 (none_behind (Out Report) p0 p1 up) but
 unwritten (refusals.Late slot) status p0 p1 p2 up but is calm = absurd (calm is)
+unwritten refusals.Commands status p0 p1 p2 up but is calm = absurd (calm is)
+unwritten refusals.TooLong status p0 p1 p2 up but is calm = behind_then (Out Report) p0 p1 p2 up but
 
 pub unopened : (refusal : Refusal) (status : Status) (p0 p1 p2 : Paths) → IsOpenedUpTo refusal p0 p1 → (refusal ≡ refusals.Memory → Same p1 p2) → status ≡ status_of refusal
     → status ≡ Memory → NoneOpened p0 p2
@@ -83,3 +90,5 @@ unopened (refusals.Length slot n) status p0 p1 p2 up same is memory = cc
 unopened (refusals.Script n) status p0 p1 p2 up same is memory = cc
 unopened (refusals.Unbuilt steps byte) status p0 p1 p2 up same is memory = cc
 unopened (refusals.Late slot) status p0 p1 p2 up same is memory = cc
+unopened refusals.Commands status p0 p1 p2 up same is memory = cc
+unopened refusals.TooLong status p0 p1 p2 up same is memory = cc

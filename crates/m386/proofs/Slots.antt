@@ -18,11 +18,11 @@ use Rattle.m386.specs.Causes.{OnlyRose, AreCounted, IsLineOpened, IsOpenedUpTo}
 -- ---- paths
 
 -- what is not opened first
-then_only : (path : Option (List ℕ)) (before between now : Option Openings) → between ≡ before → OpenedOnly path between now → OpenedOnly path before now
+pub then_only : (path : Option (List ℕ)) (before between now : Option Openings) → between ≡ before → OpenedOnly path between now → OpenedOnly path before now
 then_only path before between now same only = subst (λ x. OpenedOnly path x now) same only
 
 -- what is not opened later
-stays_only : (path : Option (List ℕ)) (before between now : Option Openings) → now ≡ between → OpenedOnly path before between → OpenedOnly path before now
+pub stays_only : (path : Option (List ℕ)) (before between now : Option Openings) → now ≡ between → OpenedOnly path before between → OpenedOnly path before now
 stays_only path before between now same only = subst (λ x. OpenedOnly path before x) (sym same) only
 
 -- slots are opened up to a refusal, and then at most the report for its line
@@ -50,6 +50,8 @@ report_once paths (refusals.Length slot n) p0 p1 p2 named up first line = subst 
 report_once paths (refusals.Script n) p0 p1 p2 named up first line = subst (λ path. OpenedOnly path (p0 (Out Report)) (p2 (Out Report))) (sym named) (then_only (Some []) (p0 (Out Report)) (p1 (Out Report)) (p2 (Out Report)) (up Report) line)
 report_once paths (refusals.Unbuilt steps byte) p0 p1 p2 named up first line = subst (λ path. OpenedOnly path (p0 (Out Report)) (p2 (Out Report))) (sym named) (then_only (Some []) (p0 (Out Report)) (p1 (Out Report)) (p2 (Out Report)) (up Report) line)
 report_once paths (refusals.Late slot) p0 p1 p2 named up first line = stays_only (paths (Out Report)) (p0 (Out Report)) (p1 (Out Report)) (p2 (Out Report)) line first
+report_once paths refusals.Commands p0 p1 p2 named up first line = stays_only (paths (Out Report)) (p0 (Out Report)) (p1 (Out Report)) (p2 (Out Report)) line first
+report_once paths refusals.TooLong p0 p1 p2 named up first line = stays_only (paths (Out Report)) (p0 (Out Report)) (p1 (Out Report)) (p2 (Out Report)) line first
 
 pub keeps_told : (paths : Slot → Option (List ℕ)) (refusal : Refusal) (l0 l1 l2 : Left) (p0 p1 p2 : Paths) → paths (Out Report) ≡ Some [] → Keeps paths l0 l1 p0 p1
     → IsOpenedUpTo refusal p0 p1 → Same l1 l2 → IsLineOpened refusal (p1 (Out Report)) (p2 (Out Report)) → SameBut (Out Report) p1 p2 → Keeps paths l0 l2 p0 p2
@@ -93,6 +95,8 @@ counted_from (refusals.Length slot n) f g h same counted = same_from f g h same 
 counted_from (refusals.Script n) f g h same counted = same_from f g h same counted
 counted_from (refusals.Unbuilt steps byte) f g h same counted = same_from f g h same counted
 counted_from (refusals.Late slot) f g h same counted = only_rose_from (Out slot) f g h same counted
+counted_from refusals.Commands f g h same counted = only_rose_from (In Commands) f g h same counted
+counted_from refusals.TooLong f g h same counted = same_from f g h same counted
 
 pub counted_result : {T : Type 0} (r : Result T Refusal) (f g h : Counts) → Same f g → IfErr r (λ refusal. AreCounted refusal g h) → IfErr r (λ refusal. AreCounted refusal f h)
 counted_result (Ok x) f g h same counted = tt

@@ -3,11 +3,13 @@ pub mod Inputs
 pub mod Headline
 pub mod Listed
 pub mod Demonstrated
+pub mod Monitored
 pub mod Refusals
 pub mod Causes
 pub mod Answers
 pub mod Feeding
 pub mod Running
 pub mod Writing
+pub mod Talking
 pub mod FileHost
 pub mod Ending

@@ -1,11 +1,12 @@
 -- The refusals: the line and the status of each.
-use Rattle.std.specs.Prelude.{ℕ, List, [], ◌++◌, codes}
+use Rattle.std.specs.Prelude.{ℕ, ◌+◌, List, [], ◌++◌, codes}
 use Rattle.std.specs.Fmt.{decimal}
 use Rattle.host_io.specs.declared.host.InSlot.TheVariants.{Rom, Disk, Script, Commands}
 use Rattle.host_io.specs.declared.host.OutSlot.TheVariants.{Report, Mem, Save}
 use Rattle.host_io.specs.declared.host.Slot.{Slot}
 use Rattle.host_io.specs.declared.host.Slot.TheVariants.{In, Out}
 use Rattle.mdl_insn.specs.Text.{hex}
+use Rattle.monitor.specs.Session.{most_commands}
 use Rattle.m386.specs.declared.refusals.Refusal.{Refusal}
 use Rattle.m386.specs.declared.refusals.Refusal.TheVariants as refusals
 use Rattle.m386.specs.declared.status.Status.{Status}
@@ -49,6 +50,8 @@ line_of (refusals.Length slot n) = length_line (In slot) n
 line_of (refusals.Script n) = script_line n
 line_of (refusals.Unbuilt steps byte) = unbuilt_line steps byte
 line_of (refusals.Late slot) = fault_line (Out slot)
+line_of refusals.Commands = fault_line (In Commands)
+line_of refusals.TooLong = length_line (In Commands) (most_commands + 1)
 
 -- ---- statuses
 
@@ -60,6 +63,8 @@ status_of (refusals.Length slot n) = statuses.Image
 status_of (refusals.Script n) = statuses.Script
 status_of (refusals.Unbuilt steps byte) = statuses.Unbuilt
 status_of (refusals.Late slot) = statuses.HostFault
+status_of refusals.Commands = statuses.HostFault
+status_of refusals.TooLong = statuses.Image
 
 -- the number with which the program ends
 abbrev pub number_of : Status → ℕ

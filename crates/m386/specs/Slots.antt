@@ -48,6 +48,8 @@ path_for (Dis job) (Out Report) = Some []
 path_for (Dis job) slot = None
 path_for (Demo number) (Out Report) = Some []
 path_for (Demo number) slot = None
+path_for (Monitor machine) (In Commands) = Some []
+path_for (Monitor machine) (In slot) = input_path machine slot
 path_for (Monitor machine) (Out Report) = Some []
 path_for (Monitor machine) slot = None
 

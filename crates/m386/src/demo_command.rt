@@ -27,7 +27,7 @@ const STEPS: u64 = 1_000_000;
 pub(crate) fn demo_command<H: Host>(alloc: Global, host: &mut H, number: u32) -> Result<(), Refusal>
     ensures ok { OnOk result (Demonstrated number (H.took host.old) (H.took host.new) (H.path host.old) (H.path host.new)) }
     ensures kept { OnOk result (Same (H.faults host.old) (H.faults host.new)) }
-    ensures refused { IfErr result (IsRefused (Demo number) (H.left host.old) (H.took host.old) (H.took host.new)) }
+    ensures refused { IfErr result (IsRefused (Demo number) (H.left host.old) (H.left host.new) (H.took host.old) (H.took host.new)) }
     ensures counted { IfErr result (λ refusal. AreCounted refusal (H.faults host.old) (H.faults host.new)) }
     ensures ready { IfErr result (λ refusal. IsReady refusal (H.path host.new (Out Report))) }
     ensures up_to { IfErr result (λ refusal. IsOpenedUpTo refusal (H.path host.old) (H.path host.new)) }

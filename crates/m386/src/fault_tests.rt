@@ -219,3 +219,37 @@ fn a_line_that_fails_is_told_behind_those_before(rt: HostRuntime) -> Result<(), 
     );
     Ok(())
 }
+
+/// A host whose commands are two lines, of which the first is none, and which fails at a call.
+fn session_host(alloc: Global, failing: u64) -> Result<MemHost, AllocError> {
+    let mut host = host(alloc)?;
+    host.put(InSlot::Commands, Vec::from_slice(alloc, b"x\ns\n")?);
+    host.fail_at(failing)?;
+    Ok(host)
+}
+
+// Three calls on the ROM, the openings of the commands and of the report, a read of both lines, their
+// answers, and the read of the end.
+#[test]
+fn a_failing_call_of_a_session_is_told_behind_its_answers(rt: HostRuntime) -> Result<(), Fail> {
+    for (call, status, said) in [
+        (1, Status::HostFault, "m386: host fault at rom\n"),
+        (4, Status::HostFault, "m386: host fault at commands\n"),
+        (5, Status::HostFault, "m386: host fault at report\n"),
+        (6, Status::HostFault, "m386: host fault at commands\n"),
+        (7, Status::HostFault, "m386: host fault at report\n"),
+        (8, Status::HostFault, "?\nm386: host fault at report\n"),
+        (
+            9,
+            Status::HostFault,
+            "?\n1 f000:0000fff1 halted\nm386: host fault at commands\n",
+        ),
+        (10, Status::Done, "?\n1 f000:0000fff1 halted\n"),
+    ] {
+        let mut host = session_host(rt.alloc(), call)?;
+        let words = ["monitor", "--rom", "rom.bin"];
+        assert_eq!(rt; m386(rt.alloc(), &words, &mut host), status, "call {call}");
+        assert_eq!(rt; host.taken(OutSlot::Report), said.as_bytes(), "call {call}");
+    }
+    Ok(())
+}

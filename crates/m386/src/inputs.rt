@@ -19,6 +19,7 @@ use command_words::Machine;
 use host_io::{Host, InError, InSlot, Slot, read_all};
 use mdl_dev::disk::{MOST_BYTES, SECTOR_BYTES};
 use mdl_state::Event;
+use monitor::MOST_COMMANDS;
 use script_gen::{ScriptError, read_script};
 use std::alloc::Global;
 
@@ -30,9 +31,6 @@ const MOST_ROM: u32 = 0x40000;
 
 /// The most bytes of a script.
 const MOST_SCRIPT: u32 = 0x400000;
-
-/// The most bytes of commands.
-const MOST_COMMANDS: u32 = 0x1000000;
 
 /// What a machine is fed with.
 #[derive(Drop)]

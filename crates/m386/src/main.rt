@@ -17,6 +17,7 @@ mod fault_tests;
 mod file_host;
 mod inputs;
 mod machine;
+mod monitor_command;
 mod outputs;
 mod refusals;
 mod run_command;

@@ -16,6 +16,7 @@ ghost use Rattle.m386.specs.Causes.{IsLineOpened, IsReady};
 use crate::status::Status;
 use arrayvec::ArrayVec;
 use host_io::{Failed, Host, InSlot, OutSlot, Slot, write_all};
+use monitor::MOST_COMMANDS;
 use reports::{ROOM, push_byte, push_decimal, push_text};
 
 /// Why a command was not done.
@@ -35,6 +36,10 @@ pub(crate) enum Refusal {
     Unbuilt(u64, u8),
     /// A call on an output failed, with the report open.
     Late(OutSlot),
+    /// A read of the commands failed, with the report open.
+    Commands,
+    /// The commands have more bytes than they may have, which is found with the report open.
+    TooLong,
 }
 
 /// A slot's name.
@@ -111,6 +116,8 @@ fn line_of(refusal: Refusal) -> ArrayVec<u8, ROOM>
         Refusal::Script(n) => push_script(&mut text, n),
         Refusal::Unbuilt(steps, byte) => push_unbuilt(&mut text, steps, byte),
         Refusal::Late(slot) => push_fault(&mut text, Slot::Out(slot)),
+        Refusal::Commands => push_fault(&mut text, Slot::In(InSlot::Commands)),
+        Refusal::TooLong => push_length(&mut text, Slot::In(InSlot::Commands), MOST_COMMANDS + 1),
     }
     text
 }
@@ -126,6 +133,8 @@ fn status_of(refusal: Refusal) -> Status
         Refusal::Script(_) => Status::Script,
         Refusal::Unbuilt(_, _) => Status::Unbuilt,
         Refusal::Late(_) => Status::HostFault,
+        Refusal::Commands => Status::HostFault,
+        Refusal::TooLong => Status::Image,
     }
 }
 
@@ -140,7 +149,7 @@ fn open_report<H: Host>(host: &mut H, refusal: Refusal) -> Result<(), Failed>
     ensures cause { HasCause (H.faults host.old) (H.faults host.new) (Out Report) result }
 {
     match refusal {
-        Refusal::Late(_) => Ok(()),
+        Refusal::Late(_) | Refusal::Commands | Refusal::TooLong => Ok(()),
         _ => host.open_out(OutSlot::Report, ""),
     }
 }

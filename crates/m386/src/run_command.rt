@@ -22,7 +22,7 @@ pub(crate) fn run_command<H: Host>(alloc: Global, host: &mut H, job: &RunJob) ->
     requires { IsWithinLimits (Run (run_of job.now)) }
     ensures ok { OnOk result (Headline (run_of job.now) (H.left host.old) (H.took host.old) (H.took host.new) (H.path host.old) (H.path host.new)) }
     ensures kept { OnOk result (Same (H.faults host.old) (H.faults host.new)) }
-    ensures refused { IfErr result (IsRefused (Run (run_of job.now)) (H.left host.old) (H.took host.old) (H.took host.new)) }
+    ensures refused { IfErr result (IsRefused (Run (run_of job.now)) (H.left host.old) (H.left host.new) (H.took host.old) (H.took host.new)) }
     ensures counted { IfErr result (λ refusal. AreCounted refusal (H.faults host.old) (H.faults host.new)) }
     ensures ready { IfErr result (λ refusal. IsReady refusal (H.path host.new (Out Report))) }
     ensures up_to { IfErr result (λ refusal. IsOpenedUpTo refusal (H.path host.old) (H.path host.new)) }

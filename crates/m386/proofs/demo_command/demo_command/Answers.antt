@@ -13,6 +13,6 @@ returns-clause-ok g c =
 pub returns-clause-refused : goal.returns-clause-refused
 returns-clause-refused g c =
     let took = g.H.Host.took in
-    demo_refused c.report.result c.args.number (g.H.Host.left c.args.host.now) (took c.args.host.now) (took c.report.new.host) c.in_ok-pc.pc
+    demo_refused c.report.result c.args.number (g.H.Host.left c.args.host.now) (g.H.Host.left c.report.new.host) (took c.args.host.now) (took c.report.new.host) c.in_ok-pc.pc
     (demo_run c.args.number c.in-Ok.rom.items c.new.result.items c.new-2.result.items c.in_ok-pc.pc c.in-Ok.ensures.rom c.new.ensures.items c.new-2.ensures.items c.in_ok-pc.ensures.ok)
     c.report.ensures.refused c.report.ensures.outputs

@@ -18,7 +18,7 @@ pub returns-clause-refused : goal.returns-clause-refused
 returns-clause-refused g c =
     let took = g.H.Host.took in
     let read = c.in_ok-inputs.ensures in
-    write_result c.write_outputs.result (run_of c.args.job.now) (g.H.Host.left c.args.host.now) (took c.args.host.now) (took c.read_inputs.new.host) (took c.write_outputs.new.host)
+    write_result c.write_outputs.result (run_of c.args.job.now) (g.H.Host.left c.args.host.now) (g.H.Host.left c.write_outputs.new.host) (took c.args.host.now) (took c.read_inputs.new.host) (took c.write_outputs.new.host)
     (fed_of c.in_ok-inputs.inputs) c.in_ok-pc.pc read.fed c.in_ok-pc.ensures.ok read.took c.write_outputs.ensures.refused
 
 pub returns-clause-counted : goal.returns-clause-counted

@@ -2,7 +2,7 @@ use Rattle.std.proofs.Common.{refl}
 use Rattle.command_words.specs.Jobs.{texts}
 use Rattle.m386.specs.Slots.{path_for, report_only}
 use Rattle.m386.proofs.Complete.{completed}
-use Rattle.m386.proofs.Ending.{done_headline, done_demo, faulted}
+use Rattle.m386.proofs.Ending.{done_headline, done_demo, done_monitor, faulted, imaged}
 use Rattle.m386.proofs.Opening.{unwritten, unopened}
 use Rattle.m386.proofs.Slots.{keeps_told, report_path}
 use Rattle.m386.proofs.top.m386.Goals as goal
@@ -15,15 +15,29 @@ pub returns-in-Ok-clause-demo : goal.returns-in-Ok-clause-demo
 returns-in-Ok-clause-demo g c = λ number matched is. done_demo (texts c.args.words.now) (g.H.Host.left c.args.host.now) (g.H.Host.took c.args.host.now) (g.H.Host.took c.command.new.host)
     (g.H.Host.path c.args.host.now) (g.H.Host.path c.command.new.host) number c.in-Ok.ensures.ok matched
 
+pub returns-in-Ok-clause-monitor : goal.returns-in-Ok-clause-monitor
+returns-in-Ok-clause-monitor g c = λ machine matched is. done_monitor (texts c.args.words.now) (g.H.Host.left c.args.host.now) (g.H.Host.took c.args.host.now) (g.H.Host.took c.command.new.host)
+    (g.H.Host.path c.args.host.now) (g.H.Host.path c.command.new.host) machine c.in-Ok.ensures.ok matched
+
+pub returns-in-Err-clause-image : goal.returns-in-Err-clause-image
+returns-in-Err-clause-image g c =
+    let took = g.H.Host.took in
+    let faults = g.H.Host.faults in
+    let told = c.refuse.ensures in
+    imaged (texts c.args.words.now) (g.H.Host.left c.args.host.now) (g.H.Host.left c.command.new.host) (took c.args.host.now) (took c.command.new.host) (took c.refuse.new.host) (g.H.Host.path c.refuse.new.host)
+    (faults c.args.host.now) (faults c.command.new.host) (faults c.refuse.new.host) c.in-Err.refusal c.refuse.result
+    c.in-Err.ensures.refused c.in-Err.ensures.counted told.status told.line told.outputs
+
 pub returns-in-Err-clause-fault : goal.returns-in-Err-clause-fault
 returns-in-Err-clause-fault g c =
+    let left = g.H.Host.left in
     let took = g.H.Host.took in
     let path = g.H.Host.path in
     let faults = g.H.Host.faults in
     let told = c.refuse.ensures in
-    faulted (texts c.args.words.now) (g.H.Host.left c.args.host.now) (took c.args.host.now) (took c.command.new.host) (took c.refuse.new.host) (path c.args.host.now) (path c.command.new.host) (path c.refuse.new.host)
+    faulted (texts c.args.words.now) (left c.args.host.now) (left c.command.new.host) (left c.refuse.new.host) (took c.args.host.now) (took c.command.new.host) (took c.refuse.new.host) (path c.args.host.now) (path c.command.new.host) (path c.refuse.new.host)
     (faults c.args.host.now) (faults c.command.new.host) (faults c.refuse.new.host) c.in-Err.refusal c.refuse.result
-    c.in-Err.ensures.refused c.in-Err.ensures.counted told.status told.line told.outputs told.faults told.later told.paths c.in-Err.ensures.up_to
+    told.left c.in-Err.ensures.refused c.in-Err.ensures.counted told.status told.line told.outputs told.faults told.later told.paths c.in-Err.ensures.up_to
 
 pub returns-in-Err-clause-keeps : goal.returns-in-Err-clause-keeps
 returns-in-Err-clause-keeps g c =
@@ -47,7 +61,7 @@ pub returns-in-Err-clause-complete : goal.returns-in-Err-clause-complete
 returns-in-Err-clause-complete g c =
     let faults = g.H.Host.faults in
     let told = c.refuse.ensures in
-    λ job matched accepts tells calm. completed (texts c.args.words.now) (g.H.Host.left c.args.host.now) (g.H.Host.took c.args.host.now) (g.H.Host.took c.command.new.host)
+    λ job matched accepts tells calm. completed (texts c.args.words.now) (g.H.Host.left c.args.host.now) (g.H.Host.left c.command.new.host) (g.H.Host.took c.args.host.now) (g.H.Host.took c.command.new.host)
     (faults c.args.host.now) (faults c.command.new.host) (faults c.refuse.new.host) job c.in-Err.refusal c.refuse.result
     c.in-Err.ensures.refused c.in-Err.ensures.counted told.status matched accepts tells calm told.faults told.later
 
