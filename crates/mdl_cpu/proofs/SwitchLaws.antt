@@ -144,9 +144,11 @@ ending_all : (wide : Bool) (code : Option ℕ) → AllWays (limit_stage ∷ code
 ending_all wide code = ((λ r. limit_any r), ((λ r. word_any wide code r), tt))
 
 stages_all : (q : Request) (t : Task) → AllWays (new_stages q t)
-stages_all q t =
-    ((λ r. ldt_any _ r), either_all (is_virtual_image t.image) (virtual_stage t.image ∷ []) (segment_stages t.image) (limit_stage ∷ code_word_stage (is_wide_tss t.desc) q.code ∷ [])
-    ((λ r. virtual_any t.image r), ending_all (is_wide_tss t.desc) q.code) (segments_all t.image (limit_stage ∷ code_word_stage (is_wide_tss t.desc) q.code ∷ []) (ending_all (is_wide_tss t.desc) q.code)))
+stages_all q t = (
+  (λ r. ldt_any _ r),
+  either_all (is_virtual_image t.image) (virtual_stage t.image ∷ []) (segment_stages t.image) (limit_stage ∷ code_word_stage (is_wide_tss t.desc) q.code ∷ [])
+      ((λ r. virtual_any t.image r), ending_all (is_wide_tss t.desc) q.code) (segments_all t.image (limit_stage ∷ code_word_stage (is_wide_tss t.desc) q.code ∷ []) (ending_all (is_wide_tss t.desc) q.code)),
+)
 
 -- ---- the switch
 

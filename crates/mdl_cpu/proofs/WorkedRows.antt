@@ -83,7 +83,12 @@ user_regs = record reset_regs {
   eflags = 2;
   seg = flat 0x23 0xC0F3 ∷ flat 0x1B 0xC0FB ∷ flat 0x23 0xC0F3 ∷ flat 0x23 0xC0F3 ∷ flat 0 0 ∷ flat 0 0 ∷ [];
   tr = record { sel = 0x28; base = 0x200; limit = 0x67; rights = 0x8B };
-  gdt_base = 0x40; gdt_limit = 0x47; idt_base = 0x100; idt_limit = 0; cr0 = 1; cpl = 3;
+  gdt_base = 0x40;
+  gdt_limit = 0x47;
+  idt_base = 0x100;
+  idt_limit = 0;
+  cr0 = 1;
+  cpl = 3;
 }
 
 -- level 0
@@ -194,104 +199,104 @@ module _ (serve : Serve) where
 
   -- a call by a gate of the 80386 to level 0, with two parameters
   a_call_inward :
-    (by_transfer call (λ t. slice_index t.regs.gpr 4) ≡ 0x2E8)
-    × (word_at 0x2FC call ≡ 0x23)
-    × (word_at 0x2F8 call ≡ 0x150)
-    × (word_at 0x2F4 call ≡ 0xBBBB)
-    × (word_at 0x2F0 call ≡ 0xAAAA)
-    × (word_at 0x2EC call ≡ 0x1B)
-    × (word_at 0x2E8 call ≡ 0x77)
-    × (by_transfer call (λ t. t.regs.eip) ≡ 0x1000)
-    × (by_transfer call (λ t. (seg_of t.regs Cs).sel) ≡ 8)
-    × (by_transfer call (λ t. t.regs.cpl) ≡ 0)
+      (by_transfer call (λ t. slice_index t.regs.gpr 4) ≡ 0x2E8)
+      × (word_at 0x2FC call ≡ 0x23)
+      × (word_at 0x2F8 call ≡ 0x150)
+      × (word_at 0x2F4 call ≡ 0xBBBB)
+      × (word_at 0x2F0 call ≡ 0xAAAA)
+      × (word_at 0x2EC call ≡ 0x1B)
+      × (word_at 0x2E8 call ≡ 0x77)
+      × (by_transfer call (λ t. t.regs.eip) ≡ 0x1000)
+      × (by_transfer call (λ t. (seg_of t.regs Cs).sel) ≡ 8)
+      × (by_transfer call (λ t. t.regs.cpl) ≡ 0)
   unfolding with_bit protected_gate_plan vector_plan through_code_plan handler_plan begin_frame_plan inner_frame_plan push_segments_plan end_frame_plan push_code_plan keep_stack_plan without_segments at_gate on_stack inner_stack_plan push_stack_plan parameter_plan parameters_plan level_stack_plan target_plan enter_plan protected_call_plan protected_jump_plan call_gate_plan inner_call_plan same_call_plan jump_code_plan call_code_plan push_place_plan task_gate_plan jump_gate_plan land_plan virtual_code_plan is_outside place_of unpack descriptor_at descriptor_plan mark_plan accessed_plan known_plan stack_plan data_plan push_plan pop_plan legal seg_of reg_of with_reg with_seg then_plan translated seen_byte got_from held_bytes read_at written_at committed discarded byte_at placed protected_return_plan return_to_plan same_return_plan outer_return_plan lowered virtual_segments return_to_virtual_plan popped_return_plan protected_interrupt_return_plan port_plan old_plan begun ldt_stage virtual_stage code_stage stack_stage limit_stage code_word_stage new_part switch reads_plan writes_plan read_image_plan save_image_plan image_of free_plan busy_bits_plan link_plan gate_way_plan delivered_by_gate deliveries_by_gate deliver_by_gate combine
   a_call_inward = (refl, refl, refl, refl, refl, refl, refl, refl, refl, refl)
 
   -- the return from it, by RETF 8
   a_return_outward :
-    (by_transfer ret (λ r. slice_index r.gpr 4) ≡ 0x158)
-    × (by_transfer ret (λ r. r.cpl) ≡ 3)
-    × (by_transfer ret (λ r. (seg_of r Ds).sel) ≡ 0)
-    × (by_transfer ret (λ r. (seg_of r Es).sel) ≡ 0x23)
-    × (by_transfer ret (λ r. (seg_of r Ss).sel) ≡ 0x23)
+      (by_transfer ret (λ r. slice_index r.gpr 4) ≡ 0x158)
+      × (by_transfer ret (λ r. r.cpl) ≡ 3)
+      × (by_transfer ret (λ r. (seg_of r Ds).sel) ≡ 0)
+      × (by_transfer ret (λ r. (seg_of r Es).sel) ≡ 0x23)
+      × (by_transfer ret (λ r. (seg_of r Ss).sel) ≡ 0x23)
   unfolding with_bit protected_gate_plan vector_plan through_code_plan handler_plan begin_frame_plan inner_frame_plan push_segments_plan end_frame_plan push_code_plan keep_stack_plan without_segments at_gate on_stack inner_stack_plan push_stack_plan parameter_plan parameters_plan level_stack_plan target_plan enter_plan protected_call_plan protected_jump_plan call_gate_plan inner_call_plan same_call_plan jump_code_plan call_code_plan push_place_plan task_gate_plan jump_gate_plan land_plan virtual_code_plan is_outside place_of unpack descriptor_at descriptor_plan mark_plan accessed_plan known_plan stack_plan data_plan push_plan pop_plan legal seg_of reg_of with_reg with_seg then_plan translated seen_byte got_from held_bytes read_at written_at committed discarded byte_at placed protected_return_plan return_to_plan same_return_plan outer_return_plan lowered virtual_segments return_to_virtual_plan popped_return_plan protected_interrupt_return_plan port_plan old_plan begun ldt_stage virtual_stage code_stage stack_stage limit_stage code_word_stage new_part switch reads_plan writes_plan read_image_plan save_image_plan image_of free_plan busy_bits_plan link_plan gate_way_plan delivered_by_gate deliveries_by_gate deliver_by_gate combine
   a_return_outward = (refl, refl, refl, refl, refl)
 
   -- IRET to V86
   a_return_to_virtual :
-    (by_transfer iret (λ t. t.regs.eflags) ≡ 0x32002)
-    × (by_transfer iret (λ t. slice_index t.regs.gpr 4) ≡ 0xABCD)
-    × (by_transfer iret (λ t. (seg_of t.regs Cs).base) ≡ 0x220)
-    × (by_transfer iret (λ t. (seg_of t.regs Gs).sel) ≡ 0x66)
-    × (by_transfer iret (λ t. t.regs.cpl) ≡ 3)
+      (by_transfer iret (λ t. t.regs.eflags) ≡ 0x32002)
+      × (by_transfer iret (λ t. slice_index t.regs.gpr 4) ≡ 0xABCD)
+      × (by_transfer iret (λ t. (seg_of t.regs Cs).base) ≡ 0x220)
+      × (by_transfer iret (λ t. (seg_of t.regs Gs).sel) ≡ 0x66)
+      × (by_transfer iret (λ t. t.regs.cpl) ≡ 3)
   unfolding with_bit protected_gate_plan vector_plan through_code_plan handler_plan begin_frame_plan inner_frame_plan push_segments_plan end_frame_plan push_code_plan keep_stack_plan without_segments at_gate on_stack inner_stack_plan push_stack_plan parameter_plan parameters_plan level_stack_plan target_plan enter_plan protected_call_plan protected_jump_plan call_gate_plan inner_call_plan same_call_plan jump_code_plan call_code_plan push_place_plan task_gate_plan jump_gate_plan land_plan virtual_code_plan is_outside place_of unpack descriptor_at descriptor_plan mark_plan accessed_plan known_plan stack_plan data_plan push_plan pop_plan legal seg_of reg_of with_reg with_seg then_plan translated seen_byte got_from held_bytes read_at written_at committed discarded byte_at placed protected_return_plan return_to_plan same_return_plan outer_return_plan lowered virtual_segments return_to_virtual_plan popped_return_plan protected_interrupt_return_plan port_plan old_plan begun ldt_stage virtual_stage code_stage stack_stage limit_stage code_word_stage new_part switch reads_plan writes_plan read_image_plan save_image_plan image_of free_plan busy_bits_plan link_plan gate_way_plan delivered_by_gate deliveries_by_gate deliver_by_gate combine
   a_return_to_virtual = (refl, refl, refl, refl, refl)
 
   -- JMP to a TSS that is too short, to one whose stack is not present, and to one that is whole; CALL to that
   switches :
-    (code_of short.0.outcome ≡ 0x10A0038)
-    × (code_of (task 0x40).0.outcome ≡ 0x20C0040)
-    × ((task 0x40).0.regs.tr.sel ≡ 0x38)
-    × (slice_index (task 0x40).0.regs.gpr 0 ≡ 0x99)
-    × ((seg_of (task 0x40).0.regs Cs).rights ≡ 0xC09A)
-    × ((seg_of (task 0x40).0.regs Ss).rights ≡ 0)
-    × (byte_of 0x6D (task 0x40) ≡ 0x89)
-    × (byte_of 0x7D (task 0x40) ≡ 0x8B)
-    × (byte_of 0x4D (task 0x40) ≡ 0x9A)
-    × (byte_of 0x220 (task 0x40) ≡ 0x55)
-    × (byte_of 0x228 (task 0x40) ≡ 0x11)
-    × (byte_of 0x254 (task 0x40) ≡ 0x10)
-    × (code_of (task 0x10).0.outcome ≡ 1)
-    × (byte_of 0x4D (task 0x10) ≡ 0x9B)
-    × ((task 0x10).0.regs.eflags ≡ 2)
-    × ((task 0x10).0.regs.cr0 ≡ 9)
-    × (called.0.regs.eflags ≡ 0x4002)
-    × (byte_of 0x300 called ≡ 0x28)
-    × (byte_of 0x6D called ≡ 0x8B)
+      (code_of short.0.outcome ≡ 0x10A0038)
+      × (code_of (task 0x40).0.outcome ≡ 0x20C0040)
+      × ((task 0x40).0.regs.tr.sel ≡ 0x38)
+      × (slice_index (task 0x40).0.regs.gpr 0 ≡ 0x99)
+      × ((seg_of (task 0x40).0.regs Cs).rights ≡ 0xC09A)
+      × ((seg_of (task 0x40).0.regs Ss).rights ≡ 0)
+      × (byte_of 0x6D (task 0x40) ≡ 0x89)
+      × (byte_of 0x7D (task 0x40) ≡ 0x8B)
+      × (byte_of 0x4D (task 0x40) ≡ 0x9A)
+      × (byte_of 0x220 (task 0x40) ≡ 0x55)
+      × (byte_of 0x228 (task 0x40) ≡ 0x11)
+      × (byte_of 0x254 (task 0x40) ≡ 0x10)
+      × (code_of (task 0x10).0.outcome ≡ 1)
+      × (byte_of 0x4D (task 0x10) ≡ 0x9B)
+      × ((task 0x10).0.regs.eflags ≡ 2)
+      × ((task 0x10).0.regs.cr0 ≡ 9)
+      × (called.0.regs.eflags ≡ 0x4002)
+      × (byte_of 0x300 called ≡ 0x28)
+      × (byte_of 0x6D called ≡ 0x8B)
   unfolding with_bit protected_gate_plan vector_plan through_code_plan handler_plan begin_frame_plan inner_frame_plan push_segments_plan end_frame_plan push_code_plan keep_stack_plan without_segments at_gate on_stack inner_stack_plan push_stack_plan parameter_plan parameters_plan level_stack_plan target_plan enter_plan protected_call_plan protected_jump_plan call_gate_plan inner_call_plan same_call_plan jump_code_plan call_code_plan push_place_plan task_gate_plan jump_gate_plan land_plan virtual_code_plan is_outside place_of unpack descriptor_at descriptor_plan mark_plan accessed_plan known_plan stack_plan data_plan push_plan pop_plan legal seg_of reg_of with_reg with_seg then_plan translated seen_byte got_from held_bytes read_at written_at committed discarded byte_at placed protected_return_plan return_to_plan same_return_plan outer_return_plan lowered virtual_segments return_to_virtual_plan popped_return_plan protected_interrupt_return_plan port_plan old_plan begun ldt_stage virtual_stage code_stage stack_stage limit_stage code_word_stage new_part switch reads_plan writes_plan read_image_plan save_image_plan image_of free_plan busy_bits_plan link_plan gate_way_plan delivered_by_gate deliveries_by_gate deliver_by_gate combine
   switches = (refl, refl, refl, refl, refl, refl, refl, refl, refl, refl, refl, refl, refl, refl, refl, refl, refl, refl, refl)
 
   -- words of ports by a bitmap of one byte, with a limit that is one too small, with one that is right, and at the last port of a byte
   ports :
-    (by_transfer (io 0x68 0) (λ _. 1) ≡ 0x1C0000)
-    × (by_transfer (io 0x69 0) (λ _. 1) ≡ 1)
-    × (by_transfer (io 0x69 7) (λ _. 1) ≡ 0x1C0000)
+      (by_transfer (io 0x68 0) (λ _. 1) ≡ 0x1C0000)
+      × (by_transfer (io 0x69 0) (λ _. 1) ≡ 1)
+      × (by_transfer (io 0x69 7) (λ _. 1) ≡ 0x1C0000)
   unfolding with_bit protected_gate_plan vector_plan through_code_plan handler_plan begin_frame_plan inner_frame_plan push_segments_plan end_frame_plan push_code_plan keep_stack_plan without_segments at_gate on_stack inner_stack_plan push_stack_plan parameter_plan parameters_plan level_stack_plan target_plan enter_plan protected_call_plan protected_jump_plan call_gate_plan inner_call_plan same_call_plan jump_code_plan call_code_plan push_place_plan task_gate_plan jump_gate_plan land_plan virtual_code_plan is_outside place_of unpack descriptor_at descriptor_plan mark_plan accessed_plan known_plan stack_plan data_plan push_plan pop_plan legal seg_of reg_of with_reg with_seg then_plan translated seen_byte got_from held_bytes read_at written_at committed discarded byte_at placed protected_return_plan return_to_plan same_return_plan outer_return_plan lowered virtual_segments return_to_virtual_plan popped_return_plan protected_interrupt_return_plan port_plan old_plan begun ldt_stage virtual_stage code_stage stack_stage limit_stage code_word_stage new_part switch reads_plan writes_plan read_image_plan save_image_plan image_of free_plan busy_bits_plan link_plan gate_way_plan delivered_by_gate deliveries_by_gate deliver_by_gate combine
   ports = (refl, refl, refl)
 
   -- a general protection fault in V86 with IOPL 2, by a gate to level 0
   a_handler_of_virtual :
-    (slice_index handler.0.regs.gpr 4 ≡ 0x2D8)
-    × (handler.0.regs.eflags ≡ 0x2002)
-    × ((seg_of handler.0.regs Cs).sel ≡ 8)
-    × ((seg_of handler.0.regs Es).rights ≡ 0)
-    × (byte_of 0x2D8 handler ≡ 0)
-    × (byte_of 0x2DC handler ≡ 0x77)
-    × (byte_of 0x2E0 handler ≡ 0x22)
-    × (byte_of 0x2E6 handler ≡ 3)
-    × (byte_of 0x2E5 handler ≡ 0x20)
-    × (byte_of 0x2E9 handler ≡ 0xAB)
-    × (byte_of 0x2EC handler ≡ 0x33)
-    × (byte_of 0x2F0 handler ≡ 0x11)
-    × (byte_of 0x2F4 handler ≡ 0x44)
-    × (byte_of 0x2F8 handler ≡ 0x55)
-    × (byte_of 0x2FC handler ≡ 0x66)
+      (slice_index handler.0.regs.gpr 4 ≡ 0x2D8)
+      × (handler.0.regs.eflags ≡ 0x2002)
+      × ((seg_of handler.0.regs Cs).sel ≡ 8)
+      × ((seg_of handler.0.regs Es).rights ≡ 0)
+      × (byte_of 0x2D8 handler ≡ 0)
+      × (byte_of 0x2DC handler ≡ 0x77)
+      × (byte_of 0x2E0 handler ≡ 0x22)
+      × (byte_of 0x2E6 handler ≡ 3)
+      × (byte_of 0x2E5 handler ≡ 0x20)
+      × (byte_of 0x2E9 handler ≡ 0xAB)
+      × (byte_of 0x2EC handler ≡ 0x33)
+      × (byte_of 0x2F0 handler ≡ 0x11)
+      × (byte_of 0x2F4 handler ≡ 0x44)
+      × (byte_of 0x2F8 handler ≡ 0x55)
+      × (byte_of 0x2FC handler ≡ 0x66)
   unfolding with_bit protected_gate_plan vector_plan through_code_plan handler_plan begin_frame_plan inner_frame_plan push_segments_plan end_frame_plan push_code_plan keep_stack_plan without_segments at_gate on_stack inner_stack_plan push_stack_plan parameter_plan parameters_plan level_stack_plan target_plan enter_plan protected_call_plan protected_jump_plan call_gate_plan inner_call_plan same_call_plan jump_code_plan call_code_plan push_place_plan task_gate_plan jump_gate_plan land_plan virtual_code_plan is_outside place_of unpack descriptor_at descriptor_plan mark_plan accessed_plan known_plan stack_plan data_plan push_plan pop_plan legal seg_of reg_of with_reg with_seg then_plan translated seen_byte got_from held_bytes read_at written_at committed discarded byte_at placed protected_return_plan return_to_plan same_return_plan outer_return_plan lowered virtual_segments return_to_virtual_plan popped_return_plan protected_interrupt_return_plan port_plan old_plan begun ldt_stage virtual_stage code_stage stack_stage limit_stage code_word_stage new_part switch reads_plan writes_plan read_image_plan save_image_plan image_of free_plan busy_bits_plan link_plan gate_way_plan delivered_by_gate deliveries_by_gate deliver_by_gate combine
   a_handler_of_virtual = (refl, refl, refl, refl, refl, refl, refl, refl, refl, refl, refl, refl, refl, refl, refl)
 
   -- the same at level 0, by a task gate
   a_task_gate :
-    (by_task.0.regs.tr.sel ≡ 0x38)
-    × (slice_index by_task.0.regs.gpr 4 ≡ 0x2E4)
-    × (by_task.0.regs.eflags ≡ 0x4002)
-    × (byte_of 0x300 by_task ≡ 0x28)
-    × (byte_of 0x226 by_task ≡ 1)
+      (by_task.0.regs.tr.sel ≡ 0x38)
+      × (slice_index by_task.0.regs.gpr 4 ≡ 0x2E4)
+      × (by_task.0.regs.eflags ≡ 0x4002)
+      × (byte_of 0x300 by_task ≡ 0x28)
+      × (byte_of 0x226 by_task ≡ 1)
   unfolding with_bit protected_gate_plan vector_plan through_code_plan handler_plan begin_frame_plan inner_frame_plan push_segments_plan end_frame_plan push_code_plan keep_stack_plan without_segments at_gate on_stack inner_stack_plan push_stack_plan parameter_plan parameters_plan level_stack_plan target_plan enter_plan protected_call_plan protected_jump_plan call_gate_plan inner_call_plan same_call_plan jump_code_plan call_code_plan push_place_plan task_gate_plan jump_gate_plan land_plan virtual_code_plan is_outside place_of unpack descriptor_at descriptor_plan mark_plan accessed_plan known_plan stack_plan data_plan push_plan pop_plan legal seg_of reg_of with_reg with_seg then_plan translated seen_byte got_from held_bytes read_at written_at committed discarded byte_at placed protected_return_plan return_to_plan same_return_plan outer_return_plan lowered virtual_segments return_to_virtual_plan popped_return_plan protected_interrupt_return_plan port_plan old_plan begun ldt_stage virtual_stage code_stage stack_stage limit_stage code_word_stage new_part switch reads_plan writes_plan read_image_plan save_image_plan image_of free_plan busy_bits_plan link_plan gate_way_plan delivered_by_gate deliveries_by_gate deliver_by_gate combine
   a_task_gate = (refl, refl, refl, refl, refl)
 
   -- an undefined instruction with no table: the fault behind it, and then shutdown
   no_gates :
-    (fault_of undefined.0.outcome ≡ 0xD0033)
-    × (ends_shut chain.0 ≡ true)
+      (fault_of undefined.0.outcome ≡ 0xD0033)
+      × (ends_shut chain.0 ≡ true)
   unfolding with_bit protected_gate_plan vector_plan through_code_plan handler_plan begin_frame_plan inner_frame_plan push_segments_plan end_frame_plan push_code_plan keep_stack_plan without_segments at_gate on_stack inner_stack_plan push_stack_plan parameter_plan parameters_plan level_stack_plan target_plan enter_plan protected_call_plan protected_jump_plan call_gate_plan inner_call_plan same_call_plan jump_code_plan call_code_plan push_place_plan task_gate_plan jump_gate_plan land_plan virtual_code_plan is_outside place_of unpack descriptor_at descriptor_plan mark_plan accessed_plan known_plan stack_plan data_plan push_plan pop_plan legal seg_of reg_of with_reg with_seg then_plan translated seen_byte got_from held_bytes read_at written_at committed discarded byte_at placed protected_return_plan return_to_plan same_return_plan outer_return_plan lowered virtual_segments return_to_virtual_plan popped_return_plan protected_interrupt_return_plan port_plan old_plan begun ldt_stage virtual_stage code_stage stack_stage limit_stage code_word_stage new_part switch reads_plan writes_plan read_image_plan save_image_plan image_of free_plan busy_bits_plan link_plan gate_way_plan delivered_by_gate deliveries_by_gate deliver_by_gate combine
   no_gates = (refl, refl)

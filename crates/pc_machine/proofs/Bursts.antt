@@ -97,7 +97,7 @@ steps_idle k (suc n) a m ran idle settled =
     let one = steps_more board_rules on_board [] run_policy (k + n) a (later n m) (later 1 (later n m)) (later 1 (later n m)) before
     (one_idle (later n m) (stays_idle n m idle) (record { a20 = settled.a20; asks = settled.asks })) refl in
     subst (λ (x : Machine BoardState). StepsFor board_rules on_board [] run_policy (k + suc n) a x) (sym (later_more n m) ∙ ap (λ (j : ℕ). later j m) (omega arith))
-        (subst (λ (j : ℕ). StepsFor board_rules on_board [] run_policy j a (later 1 (later n m))) (omega arith) one)
+    (subst (λ (j : ℕ). StepsFor board_rules on_board [] run_policy j a (later 1 (later n m))) (omega arith) one)
 
 -- ---- a burst
 
