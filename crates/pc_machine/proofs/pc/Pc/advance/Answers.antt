@@ -11,6 +11,9 @@ use Rattle.pc_machine.proofs.pc.Pc.advance.Goals as goal
 pub loop-done-init : goal.loop-done-init
 loop-done-init c = record { ran = steps_none board_rules on_board [] run_policy c.args.self.now; steps = omega arith }
 
+pub step-requires : goal.step-requires
+step-requires c = omega (arith, ap (λ (x : Machine BoardState). x.state.core.steps) c.if-pass.ensures.unchanged, c.loop-done.invariant.steps, c.loop-done-test.true, c.requires)
+
 pub returns-then-pass-clause-made : goal.returns-then-pass-clause-made
 returns-then-pass-clause-made c =
     let held = c.loop-done.invariant in
@@ -32,7 +35,7 @@ returns-then-not-step-clause-stopped c =
       before = c.loop-done-test.true;
       ran = subst (λ (x : Machine BoardState). StepsFor board_rules on_board [] run_policy c.loop-done.done c.args.self.now x) (sym same) held.ran;
       count = ap (λ (x : Machine BoardState). x.state.core.steps) same ∙ held.steps;
-      unbuilt = subst (IsUnbuilt board_rules) (sym c.if-not-step.ensures.unchanged) c.if-not-step.ensures.unbuilt;
+      unbuilt = subst (λ (x : Machine BoardState). IsUnbuilt board_rules x) (sym c.if-not-step.ensures.unchanged) c.if-not-step.ensures.unbuilt;
     }
 
 pub loop-done-preserved : goal.loop-done-preserved

@@ -48,13 +48,18 @@ returns-then-not-advance-clause-stopped_applied c =
     split_count now c.args.events.now c.loop-done.applied
     (split_between (here + 1) (now + 1) (here + c.steps_before_next-burst.result) (now + 1) c.args.events.now c.loop-done.applied split (omega (arith, stalls.count)) (omega (arith, stalls.count, stalls.before)))
 
+pub advance-requires : goal.advance-requires
+advance-requires c = omega (arith, c.steps_before_next-burst.ensures.most, c.loop-done.invariant.steps, c.requires.count, c.loop-done-test.true)
+
 pub apply-applied-in-loop-done-requires : goal.apply-applied-in-loop-done-requires
 apply-applied-in-loop-done-requires c =
     let next = c.steps_before_next-burst.ensures in
     let here = c.loop-done.self.state.core.steps in
     let now = c.advance.new.self.state.core.steps in
     let split : Split (here + 1) (here + c.steps_before_next-burst.result) c.args.events.now c.loop-done.applied = subst (λ (k : ℕ). Split (k + 1) (k + c.steps_before_next-burst.result) c.args.events.now c.loop-done.applied) c.steps.ensures next.split in
-    split_between (here + 1) now (here + c.steps_before_next-burst.result) now c.args.events.now c.loop-done.applied split (omega (arith, c.if-not-advance.ensures.count, next.some)) (omega (arith, c.if-not-advance.ensures.count))
+    record {
+      split = split_between (here + 1) now (here + c.steps_before_next-burst.result) now c.args.events.now c.loop-done.applied split (omega (arith, c.if-not-advance.ensures.count, next.some)) (omega (arith, c.if-not-advance.ensures.count));
+    }
 
 pub loop-done-preserved : goal.loop-done-preserved
 loop-done-preserved c =
