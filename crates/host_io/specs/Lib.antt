@@ -1,6 +1,7 @@
 pub mod Slots
 pub mod Causes
 pub mod Openings
+pub mod Promises
 pub mod Transfers
 pub mod Prefixes
 pub mod History

@@ -1,5 +1,5 @@
 -- What a host in memory has, and what its calls do. Own: a host in memory
-use Rattle.std.specs.Prelude.{◌≡◌, ℕ, ◌^◌, ◌-◌, List, [], Option, None, Bool, false, nat_eq}
+use Rattle.std.specs.Prelude.{◌≡◌, ℕ, ◌+◌, ◌^◌, ◌-◌, ◌&&◌, List, [], ◌∷◌, length, None, Bool, false, true, nat_eq}
 use Rattle.std.specs.Borrow.{Lends, MutBor, Fml}
 use Rattle.std.specs.List.{list_any}
 use Rattle.std.specs.Int.NonZero.{non_zero_u32_get}
@@ -18,6 +18,7 @@ use Rattle.host_io.specs.contracts.input.Input as InputRow
 use Rattle.host_io.specs.contracts.output.Output as OutputRow
 use Rattle.host_io.specs.Causes.{risen}
 use Rattle.host_io.specs.Openings.{Openings}
+use Rattle.host_io.specs.Promises.{Promise}
 use Rattle.host_io.specs.Inputs.{bytes_left}
 use Rattle.host_io.specs.History.{openings_in}
 use Rattle.host_io.specs.Slots.{Same}
@@ -103,6 +104,26 @@ next_call h = risen (calls_of h)
 -- the next call is listed
 abbrev pub is_listed : MemHost → Bool
 is_listed h = list_any (λ call. nat_eq call (next_call h)) (listed_of h)
+
+-- ---- what it promises
+
+-- there is no call among these
+abbrev pub is_none : List ℕ → Bool
+is_none [] = true
+is_none (call ∷ calls) = false
+
+-- where no call is listed, it is sure of each input that was put, and of each output
+abbrev pub sure_of : MemHost → Slot → Bool
+sure_of h (In slot) = is_none (listed_of h) && was_put h slot
+sure_of h (Out slot) = is_none (listed_of h)
+
+-- how many bytes an output takes in all
+abbrev pub most_of : MemHost → OutSlot → ℕ
+most_of h slot = length (took_of h slot) + room_of h slot
+
+-- paths have up to 255 bytes
+abbrev pub promise_of : MemHost → Promise
+promise_of h = record { sure = sure_of h; longest = 255; most = most_of h }
 
 -- ---- what stays
 

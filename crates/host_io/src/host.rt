@@ -7,6 +7,7 @@ ghost use Rattle.host_io.specs.declared.host.OutSlot.{OutSlot};
 ghost use Rattle.host_io.specs.declared.host.Slot.{Slot};
 ghost use Rattle.host_io.specs.Causes.{HasCause};
 ghost use Rattle.host_io.specs.Openings.{Openings, OpenedOnce};
+ghost use Rattle.host_io.specs.Promises.{Promise, IsSure, Opens, IsFull};
 ghost use Rattle.host_io.specs.Slots.{Same, SameBut, TellsAlike};
 
 /// What a run reads.
@@ -54,6 +55,9 @@ pub trait Host {
     /// How often the calls on each slot failed, up to `u64::MAX`.
     ghost faults: { Self → Slot → ℕ };
 
+    /// What the host promises of its calls, none of which changes it.
+    ghost promise: { Self → Promise };
+
     /// Opens an input. What it has left is what reading it from here gives.
     fn open_in(&mut self, slot: InSlot, name: &str) -> Result<(), Failed>
         ensures opened { OnOk result (OpenedOnce (path self.old (Slot.In slot)) (path self.new (Slot.In slot)) name.now) }
@@ -62,7 +66,9 @@ pub trait Host {
         ensures paths { SameBut (Slot.In slot) (path self.old) (path self.new) }
         ensures left { Same (left self.old) (left self.new) }
         ensures took { Same (took self.old) (took self.new) }
-        ensures cause { HasCause (faults self.old) (faults self.new) (Slot.In slot) result };
+        ensures cause { HasCause (faults self.old) (faults self.new) (Slot.In slot) result }
+        ensures promise { promise self.new ≡ promise self.old }
+        ensures sure { OnErr result (¬ (Opens (promise self.old) (Slot.In slot) name.now)) };
 
     /// Reads the next bytes of an input. None into a buffer with room is its end.
     fn read(&mut self, slot: InSlot, buffer: &mut [u8]) -> Result<usize, Failed>
@@ -72,7 +78,9 @@ pub trait Host {
         ensures inputs { SameBut slot (left self.old) (left self.new) }
         ensures took { Same (took self.old) (took self.new) }
         ensures paths { Same (path self.old) (path self.new) }
-        ensures cause { HasCause (faults self.old) (faults self.new) (Slot.In slot) result };
+        ensures cause { HasCause (faults self.old) (faults self.new) (Slot.In slot) result }
+        ensures promise { promise self.new ≡ promise self.old }
+        ensures sure { OnErr result (¬ (IsSure (promise self.old) (Slot.In slot))) };
 
     /// Opens an output. What it took before stands.
     fn open_out(&mut self, slot: OutSlot, name: &str) -> Result<(), Failed>
@@ -82,7 +90,9 @@ pub trait Host {
         ensures paths { SameBut (Slot.Out slot) (path self.old) (path self.new) }
         ensures left { Same (left self.old) (left self.new) }
         ensures took { Same (took self.old) (took self.new) }
-        ensures cause { HasCause (faults self.old) (faults self.new) (Slot.Out slot) result };
+        ensures cause { HasCause (faults self.old) (faults self.new) (Slot.Out slot) result }
+        ensures promise { promise self.new ≡ promise self.old }
+        ensures sure { OnErr result (¬ (Opens (promise self.old) (Slot.Out slot) name.now)) };
 
     /// Writes the first bytes of a piece, and of one that is not empty at least one byte.
     fn write(&mut self, slot: OutSlot, bytes: &[u8]) -> Result<usize, Failed>
@@ -93,5 +103,7 @@ pub trait Host {
         ensures outputs { SameBut slot (took self.old) (took self.new) }
         ensures left { Same (left self.old) (left self.new) }
         ensures paths { Same (path self.old) (path self.new) }
-        ensures cause { HasCause (faults self.old) (faults self.new) (Slot.Out slot) result };
+        ensures cause { HasCause (faults self.old) (faults self.new) (Slot.Out slot) result }
+        ensures promise { promise self.new ≡ promise self.old }
+        ensures sure { OnErr result (IsSure (promise self.old) (Slot.Out slot) → IsFull (promise self.old) slot (took self.new slot)) };
 }

@@ -4,7 +4,7 @@ ghost use Rattle.std.specs.Prelude.{◌≡◌, ◌<◌, ◌≤◌, ◌-◌, ◌+
 ghost use Rattle.std.specs.Borrow.{sem};
 ghost use Rattle.host_io.specs.Causes.{HasCause, count_after};
 ghost use Rattle.host_io.specs.Openings.{opened_once};
-ghost use Rattle.host_io.specs.MemHost.{IsNew, IsNextCall, LendsInput, LendsOutput, SameEnds, SameHistory, SamePlan, faults_of, input_of, is_listed, left_of, listed_of, next_call, output_of, openings_of, piece_of, room_of, took_of, was_put};
+ghost use Rattle.host_io.specs.MemHost.{IsNew, IsNextCall, LendsInput, LendsOutput, SameEnds, SameHistory, SamePlan, faults_of, input_of, is_listed, left_of, listed_of, next_call, output_of, openings_of, piece_of, promise_of, room_of, took_of, was_put};
 ghost use Rattle.host_io.specs.Slots.{Same, SameBut};
 
 use crate::host::{Failed, Host, InSlot, OutSlot, Slot};
@@ -154,6 +154,8 @@ impl Host for MemHost {
     ghost path = { λ h slot. Some (openings_of h slot) };
 
     ghost faults = { faults_of };
+
+    ghost promise = { promise_of };
 
     fn open_in(&mut self, slot: InSlot, name: &str) -> Result<(), Failed>
         ensures fails { is_err result ≡ (is_listed self.old || not (was_put self.old slot) || nat_lt 255 (length name.now)) }

@@ -4,6 +4,7 @@ ghost use Rattle.std.specs.Prelude.{◌≡◌, ◌≢◌, ◌+◌, ◌≤◌, �
 ghost use Rattle.std.specs.Io.KnownBytes.{Appends, IsAtEnd};
 ghost use Rattle.host_io.specs.declared.host.Slot.TheVariants.{In, Out};
 ghost use Rattle.host_io.specs.Causes.{HasCause, HasReadCause};
+ghost use Rattle.host_io.specs.Promises.{IsSure, IsFull};
 ghost use Rattle.host_io.specs.Slots.{Same, SameBut, TellsAlike};
 ghost use Rattle.host_io.specs.Transfers.{AppendsPrefix, IsOver, IsWhole, Takes, TakesAtMost};
 
@@ -43,6 +44,8 @@ pub fn read_all<H: Host>(
     ensures took { Same (H.took host.old) (H.took host.new) }
     ensures paths { Same (H.path host.old) (H.path host.new) }
     ensures cause { HasReadCause (H.faults host.old) (H.faults host.new) (In slot) result }
+    ensures promise { H.promise host.new ≡ H.promise host.old }
+    ensures sure { result ≡ Err InError.HostFault → ¬ (IsSure (H.promise host.old) (In slot)) }
 {
     let most = limit as usize + 1;
     let mut bytes = Vec::new(alloc);
@@ -74,6 +77,8 @@ pub fn write_all<H: Host>(host: &mut H, slot: OutSlot, bytes: &[u8]) -> Result<(
     ensures left { Same (H.left host.old) (H.left host.new) }
     ensures paths { Same (H.path host.old) (H.path host.new) }
     ensures cause { HasCause (H.faults host.old) (H.faults host.new) (Out slot) result }
+    ensures promise { H.promise host.new ≡ H.promise host.old }
+    ensures sure { OnErr result (IsSure (H.promise host.old) (Out slot) → IsFull (H.promise host.old) slot (H.took host.new slot)) }
 {
     let mut at = 0;
     while at < bytes.len() {

@@ -1,10 +1,12 @@
 //! The host of the program: the files that the words name, standard input and standard output.
 //!
 //! The slot `Commands` opened with the empty path is standard input, and `Report` opened with the
-//! empty path standard output. Nothing is told of contents and paths.
+//! empty path standard output. Nothing is told of contents and paths, and no
+//! call is sure to succeed.
 
 ghost use Rattle.std.specs.Prelude.{◌≡◌, ◌≤◌, ◌<◌, None, ⊤, length, IfOk};
 ghost use Rattle.std.specs.Borrow.{sem};
+ghost use Rattle.host_io.specs.Promises.{no_promise};
 ghost use Rattle.m386.specs.FileHost.{IsCounted, LendsEnd, end_of, faults_of};
 
 use host_io::{Failed, Host, InSlot, OutSlot, Slot};
@@ -155,6 +157,8 @@ impl Host for FileHost {
     ghost path = { λ _ _. None };
 
     ghost faults = { faults_of };
+
+    ghost promise = { λ _. no_promise };
 
     fn open_in(&mut self, slot: InSlot, name: &str) -> Result<(), Failed> {
         let opened = match slot {

@@ -1,4 +1,4 @@
-use Rattle.std.proofs.Common.{◌≤◌, ◌-◌, length}
+use Rattle.std.proofs.Common.{◌≡◌, ◌≤◌, ◌-◌, length}
 use Rattle.std.specs.Io.KnownBytes.{Consumes}
 use Rattle.host_io.specs.Slots.{Same, SameBut, TellsAlike}
 use Rattle.host_io.proofs.transfers.read_all.Given as goal
@@ -12,6 +12,7 @@ invariant-loop-slot g l = record {
   took : Same (g.H.Host.took l.fn.host) (g.H.Host.took l.host);
   paths : Same (g.H.Host.path l.fn.host) (g.H.Host.path l.host);
   counts : Same (g.H.Host.faults l.fn.host) (g.H.Host.faults l.host);
+  promise : g.H.Host.promise l.host ≡ g.H.Host.promise l.fn.host;
 }
 
 abbrev pub decreases-loop-slot : goal.decreases-loop-slot

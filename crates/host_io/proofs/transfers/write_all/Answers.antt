@@ -26,4 +26,5 @@ loop-at-preserved g c =
       left = λ slot. e.left slot ∙ i.left slot;
       paths = λ slot. e.paths slot ∙ i.paths slot;
       counts = search (rules);
+      promise = e.promise ∙ i.promise;
     }
