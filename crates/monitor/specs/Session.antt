@@ -1,11 +1,12 @@
 -- A session: the lines of the input, each answered before more of it is read, up to `q` or the end. Own: The lines of the monitor
-use Rattle.std.specs.Prelude.{◌≡◌, ◌≢◌, ◌⊎◌, ◌<◌, ◌≤◌, ◌^◌, ℕ, Bool, true, List, [], ◌∷◌, ◌++◌, length, Option, codes}
+use Rattle.std.specs.Prelude.{◌≡◌, ◌≢◌, ◌⊎◌, ◌<◌, ◌≤◌, ◌^◌, ⊤, ℕ, Bool, true, List, [], ◌∷◌, ◌++◌, length, Option, codes}
 use Rattle.std.specs.Io.KnownBytes.{Appends, Consumes}
 use Rattle.host_io.specs.declared.host.InSlot.TheVariants.{Commands}
 use Rattle.host_io.specs.declared.host.OutSlot.TheVariants as outputs
 use Rattle.host_io.specs.declared.host.Slot.{Slot}
 use Rattle.host_io.specs.declared.host.Slot.TheVariants.{In, Out}
 use Rattle.host_io.specs.Causes.{Rose}
+use Rattle.host_io.specs.Promises.{Promise, IsSure, IsFull}
 use Rattle.host_io.specs.Slots.{Same, SameBut}
 use Rattle.host_io.specs.Transfers.{AppendsPrefix, IsWhole, IsOver}
 use Rattle.mdl_board.specs.Board.{BoardState}
@@ -149,3 +150,9 @@ abbrev pub IsCausedBy : Broken → (Slot → ℕ) → (Slot → ℕ) → Type 0
 IsCausedBy broken.Report before now = Rose (before (Out outputs.Report)) (now (Out outputs.Report)) × SameBut (Out outputs.Report) before now
 IsCausedBy broken.Commands before now = Rose (before (In Commands)) (now (In Commands)) × SameBut (In Commands) before now
 IsCausedBy broken.TooLong before now = Same before now
+
+-- where the host is sure of the slot, the input does not fail, and the report is full
+abbrev pub IsExcused : Broken → Promise → Option (List ℕ) → Type 0
+IsExcused broken.Report promise took = IsSure promise (Out outputs.Report) → IsFull promise outputs.Report took
+IsExcused broken.Commands promise took = ¬ (IsSure promise (In Commands))
+IsExcused broken.TooLong promise took = ⊤

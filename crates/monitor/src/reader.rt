@@ -5,6 +5,7 @@ ghost use Rattle.std.specs.Io.KnownBytes.{Keeps, prepend_known};
 ghost use Rattle.host_io.specs.declared.host.InSlot.TheVariants.{Commands};
 ghost use Rattle.host_io.specs.declared.host.Slot.TheVariants.{In};
 ghost use Rattle.host_io.specs.Causes.{HasCause};
+ghost use Rattle.host_io.specs.Promises.{IsSure};
 ghost use Rattle.host_io.specs.Slots.{Same, SameBut};
 
 use host_io::{Failed, Host, InSlot};
@@ -44,6 +45,8 @@ impl Reader {
         ensures took { Same (H.took host.old) (H.took host.new) }
         ensures paths { Same (H.path host.old) (H.path host.new) }
         ensures cause { HasCause (H.faults host.old) (H.faults host.new) (In Commands) result }
+        ensures promise { H.promise host.new ≡ H.promise host.old }
+        ensures sure { OnErr result (¬ (IsSure (H.promise host.old) (In Commands))) }
     {
         if self.from == self.to {
             let Ok(count) = host.read(InSlot::Commands, &mut self.piece) else {

@@ -5,10 +5,11 @@ ghost use Rattle.host_io.specs.declared.host.InSlot.TheVariants.{Commands};
 ghost use Rattle.host_io.specs.declared.host.OutSlot.TheVariants.{Report};
 ghost use Rattle.host_io.specs.declared.host.Slot.TheVariants.{Out};
 ghost use Rattle.host_io.specs.Causes.{HasCause};
+ghost use Rattle.host_io.specs.Promises.{IsSure, IsFull};
 ghost use Rattle.host_io.specs.Slots.{Same, SameBut};
 ghost use Rattle.mdl_text.specs.CommandInput.{text_of};
 ghost use Rattle.mdl_text.specs.CommandLine.{most_steps};
-ghost use Rattle.monitor.specs.Session.{IsSession, IsBroken, IsCausedBy};
+ghost use Rattle.monitor.specs.Session.{IsSession, IsBroken, IsCausedBy, IsExcused};
 ghost use Rattle.monitor.specs.LineSteps.{AnswersWhole, AnswersSome, AnswersLast};
 
 use crate::answers::answer;
@@ -50,6 +51,8 @@ fn answer_line<T: Target, H: Host>(
     ensures paths { Same (H.path host.old) (H.path host.new) }
     ensures left { Same (H.left host.old) (H.left host.new) }
     ensures cause { HasCause (H.faults host.old) (H.faults host.new) (Out Report) result }
+    ensures promise { H.promise host.new ≡ H.promise host.old }
+    ensures sure { OnErr result (IsSure (H.promise host.old) (Out Report) → IsFull (H.promise host.old) Report (H.took host.new Report)) }
 {
     match read_line(line.line()) {
         Ok(command) => answer(&command, breaks, target, host),
@@ -76,6 +79,8 @@ fn end<T: Target, H: Host>(
     ensures paths { Same (H.path host.old) (H.path host.new) }
     ensures left { Same (H.left host.old) (H.left host.new) }
     ensures cause { HasCause (H.faults host.old) (H.faults host.new) (Out Report) result }
+    ensures promise { H.promise host.new ≡ H.promise host.old }
+    ensures sure { OnErr result (IsSure (H.promise host.old) (Out Report) → IsFull (H.promise host.old) Report (H.took host.new Report)) }
 {
     if line.is_empty() {
         return Ok(());
@@ -93,6 +98,8 @@ pub fn converse<T: Target, H: Host>(target: &mut T, host: &mut H) -> Result<(), 
     ensures broken { IfErr result (λ broken. IsBroken broken (T.script target.old) (T.machine target.old) (T.machine target.new) (H.left host.old Commands) (H.left host.new Commands) (H.took host.old Report) (H.took host.new Report)) }
     ensures kept { OnOk result (Same (H.faults host.old) (H.faults host.new)) }
     ensures cause { IfErr result (λ broken. IsCausedBy broken (H.faults host.old) (H.faults host.new)) }
+    ensures promise { H.promise host.new ≡ H.promise host.old }
+    ensures sure { IfErr result (λ broken. IsExcused broken (H.promise host.old) (H.took host.new Report)) }
     ensures script { T.script target.new ≡ T.script target.old }
     ensures outputs { SameBut Report (H.took host.old) (H.took host.new) }
     ensures inputs { SameBut Commands (H.left host.old) (H.left host.new) }

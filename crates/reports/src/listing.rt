@@ -5,6 +5,7 @@ ghost use Rattle.arrayvec.specs.ArrayVec.{array_vec_len};
 ghost use Rattle.host_io.specs.declared.host.OutSlot.TheVariants.{Report};
 ghost use Rattle.host_io.specs.declared.host.Slot.TheVariants.{Out};
 ghost use Rattle.host_io.specs.Causes.{HasCause};
+ghost use Rattle.host_io.specs.Promises.{IsSure, IsFull};
 ghost use Rattle.host_io.specs.Slots.{Same, SameBut};
 ghost use Rattle.mdl_insn.specs.Text.{hex};
 ghost use Rattle.mdl_insn.specs.Listing.{bytes_text};
@@ -87,6 +88,8 @@ pub fn write_listing<H: Host>(
     ensures paths { Same (H.path host.old) (H.path host.new) }
     ensures left { Same (H.left host.old) (H.left host.new) }
     ensures cause { HasCause (H.faults host.old) (H.faults host.new) (Out Report) result }
+    ensures promise { H.promise host.new ≡ H.promise host.old }
+    ensures sure { OnErr result (IsSure (H.promise host.old) (Out Report) → IsFull (H.promise host.old) Report (H.took host.new Report)) }
 {
     let mut at = from as usize;
     for _line in 0..count {

@@ -7,6 +7,7 @@ ghost use Rattle.host_io.specs.declared.host.OutSlot.TheVariants.{Report};
 ghost use Rattle.host_io.specs.declared.host.Slot.TheVariants.{Out};
 ghost use Rattle.host_io.specs.Slots.{Same, SameBut};
 ghost use Rattle.host_io.specs.Causes.{HasCause};
+ghost use Rattle.host_io.specs.Promises.{IsSure, IsFull};
 ghost use Rattle.host_io.specs.Transfers.{AppendsPrefix};
 ghost use Rattle.mdl_dev.specs.Screen.{register_of};
 ghost use Rattle.mdl_step.specs.Report.{activity_text, steps_line, state_line, accumulators_line, pointers_line, control_line, segment_line, segment_lines, table_line, debug_line, last_line, printed, screen_line, screen_lines, register_lines};
@@ -278,6 +279,8 @@ pub fn write_report<H: Host, M: Shown>(host: &mut H, machine: &M) -> Result<(), 
     ensures paths { Same (H.path host.old) (H.path host.new) }
     ensures left { Same (H.left host.old) (H.left host.new) }
     ensures cause { HasCause (H.faults host.old) (H.faults host.new) (Out Report) result }
+    ensures promise { H.promise host.new ≡ H.promise host.old }
+    ensures sure { OnErr result (IsSure (H.promise host.old) (Out Report) → IsFull (H.promise host.old) Report (H.took host.new Report)) }
 {
     write_all(host, OutSlot::Report, register_lines(machine).as_slice())?;
     write_all(host, OutSlot::Report, screen_lines(machine).as_slice())?;

@@ -186,6 +186,7 @@ loop-taken-preserved-then-byte-ne10 g c =
       inputs = λ other differs. c.next.ensures.inputs other differs ∙ held.inputs other differs;
       paths = λ slot. c.next.ensures.paths slot ∙ held.paths slot;
       counts = λ slot. same slot ∙ held.counts slot;
+      promise = c.next.ensures.promise ∙ held.promise;
     }
 
 pub loop-taken-preserved : goal.loop-taken-preserved
@@ -225,6 +226,7 @@ loop-taken-preserved g c =
       inputs = λ other differs. c.answer_line.ensures.left other ∙ c.next.ensures.inputs other differs ∙ held.inputs other differs;
       paths = λ slot. c.answer_line.ensures.paths slot ∙ c.next.ensures.paths slot ∙ held.paths slot;
       counts = λ slot. counted slot ∙ same slot ∙ held.counts slot;
+      promise = c.answer_line.ensures.promise ∙ c.next.ensures.promise ∙ held.promise;
     }
 
 pub returns-in-Ok-Some-clause-broken : goal.returns-in-Ok-Some-clause-broken

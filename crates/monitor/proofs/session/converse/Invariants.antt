@@ -17,4 +17,5 @@ invariant-loop-taken g l = record {
   inputs : SameBut Commands (g.H.Host.left l.fn.host) (g.H.Host.left l.host);
   paths : Same (g.H.Host.path l.fn.host) (g.H.Host.path l.host);
   counts : Same (g.H.Host.faults l.fn.host) (g.H.Host.faults l.host);
+  promise : g.H.Host.promise l.host ≡ g.H.Host.promise l.fn.host;
 }

@@ -29,6 +29,7 @@ loop-line-preserved g c =
       paths = λ slot. e.paths slot ∙ i.paths slot;
       left = λ slot. e.left slot ∙ i.left slot;
       counts = search rules;
+      promise = e.promise ∙ i.promise;
     }
 
 pub returns-clause-ok : goal.returns-clause-ok

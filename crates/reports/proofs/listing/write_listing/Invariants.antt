@@ -1,3 +1,4 @@
+use Rattle.std.proofs.Common.{◌≡◌}
 use Rattle.host_io.specs.Slots.{Same, SameBut}
 use Rattle.host_io.specs.declared.host.OutSlot.TheVariants.{Report}
 use Rattle.reports.specs.Lines.{AppendsLines}
@@ -10,4 +11,5 @@ invariant-loop-line g l = record {
   paths : Same (g.H.Host.path l.fn.host) (g.H.Host.path l.host);
   left : Same (g.H.Host.left l.fn.host) (g.H.Host.left l.host);
   counts : Same (g.H.Host.faults l.fn.host) (g.H.Host.faults l.host);
+  promise : g.H.Host.promise l.host ≡ g.H.Host.promise l.fn.host;
 }
