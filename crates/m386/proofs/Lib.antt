@@ -7,3 +7,5 @@ pub mod Ending
 pub mod Complete
 pub mod Demos
 pub mod Monitors
+pub mod Within
+pub mod Assured

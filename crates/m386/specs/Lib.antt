@@ -8,6 +8,8 @@ pub mod Refusals
 pub mod Causes
 pub mod Answers
 pub mod Feeding
+pub mod Assured
+pub mod Within
 pub mod Running
 pub mod Writing
 pub mod Talking

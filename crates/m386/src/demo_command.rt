@@ -8,6 +8,8 @@ ghost use Rattle.command_words.specs.Jobs.{Demo};
 ghost use Rattle.m386.specs.Slots.{Keeps, path_for};
 ghost use Rattle.m386.specs.Demonstrated.{Demonstrated};
 ghost use Rattle.m386.specs.Causes.{AreCounted, IsOpenedUpTo, IsReady, IsRefused};
+ghost use Rattle.m386.specs.Assured.{IsAssured, IsNoFault};
+ghost use Rattle.m386.specs.Within.{IsWithin};
 
 use crate::inputs::Inputs;
 use crate::machine::run;
@@ -29,6 +31,9 @@ pub(crate) fn demo_command<H: Host>(alloc: Global, host: &mut H, number: u32) ->
     ensures kept { OnOk result (Same (H.faults host.old) (H.faults host.new)) }
     ensures refused { IfErr result (IsRefused (Demo number) (H.left host.old) (H.left host.new) (H.took host.old) (H.took host.new)) }
     ensures counted { IfErr result (λ refusal. AreCounted refusal (H.faults host.old) (H.faults host.new)) }
+    ensures within { IfErr result (IsWithin (H.left host.old) (H.left host.new)) }
+    ensures promise { H.promise host.new ≡ H.promise host.old }
+    ensures sure { IsAssured (H.promise host.old) (path_for (Demo number)) (H.took host.new) → IfErr result IsNoFault }
     ensures ready { IfErr result (λ refusal. IsReady refusal (H.path host.new (Out Report))) }
     ensures up_to { IfErr result (λ refusal. IsOpenedUpTo refusal (H.path host.old) (H.path host.new)) }
     ensures keeps { Keeps (path_for (Demo number)) (H.left host.old) (H.left host.new) (H.path host.old) (H.path host.new) }

@@ -253,3 +253,20 @@ fn a_failing_call_of_a_session_is_told_behind_its_answers(rt: HostRuntime) -> Re
     }
     Ok(())
 }
+
+#[test]
+fn an_output_with_just_enough_room_takes_its_text(rt: HostRuntime) -> Result<(), Fail> {
+    let mut whole = host(rt.alloc())?;
+    assert_eq!(rt; run(rt.alloc(), &mut whole, "1"), Status::Done);
+    let enough = whole.taken(OutSlot::Report).len().min(4096) as u32;
+    for (room, status) in [
+        (enough, Status::Done),
+        (enough.saturating_sub(1), Status::HostFault),
+    ] {
+        let mut host = MemHost::new(rt.alloc());
+        host.put(InSlot::Rom, vec![in rt.alloc(); 0xF4; 4096]?);
+        host.make_room(OutSlot::Report, room)?;
+        assert_eq!(rt; run(rt.alloc(), &mut host, "1"), status, "room {room}");
+    }
+    Ok(())
+}

@@ -5,14 +5,17 @@ ghost use Rattle.host_io.specs.declared.host.InSlot as slots;
 ghost use Rattle.host_io.specs.declared.host.InSlot.TheVariants.{Rom, Disk, Script};
 ghost use Rattle.host_io.specs.declared.host.OutSlot as outputs;
 ghost use Rattle.host_io.specs.declared.host.Slot.TheVariants.{In, Out};
+ghost use Rattle.host_io.specs.Promises.{Opens};
 ghost use Rattle.host_io.specs.Slots.{Same, SameBut};
-ghost use Rattle.host_io.specs.Transfers.{IsWhole};
+ghost use Rattle.host_io.specs.Transfers.{IsWhole, TakesAtMost};
 ghost use Rattle.command_words.specs.Jobs.{machine_of, text_of};
 ghost use Rattle.mdl_text.specs.Script as texts;
 ghost use Rattle.m386.specs.Slots.{OpenedAs, OpenedOnly, input_path};
 ghost use Rattle.m386.specs.Inputs.{limit_of, IsFit, IsInput, IsFed};
 ghost use Rattle.m386.specs.Causes.{AreCounted};
 ghost use Rattle.m386.specs.Feeding.{IsInputRefused, IsLinesRefused, IsFeedRefused, IsNamed, fed_of};
+ghost use Rattle.m386.specs.Assured.{OpensAt, IsNoFault};
+ghost use Rattle.m386.specs.Within.{AreWithin, IsInputWithin, IsWithin};
 
 use crate::refusals::Refusal;
 use command_words::Machine;
@@ -82,6 +85,10 @@ pub(crate) fn read_input<H: Host>(
     ensures kept { OnOk result (Same (H.faults host.old) (H.faults host.new)) }
     ensures cause { IfErr result (IsInputRefused slot (H.left host.old slot)) }
     ensures counted { IfErr result (λ refusal. AreCounted refusal (H.faults host.old) (H.faults host.new)) }
+    ensures within { OnOk result (TakesAtMost (limit_of slot) (H.left host.old slot) (H.left host.new slot)) }
+    ensures memory { IfErr result (IsInputWithin (limit_of slot) (H.left host.old slot) (H.left host.new slot)) }
+    ensures promise { H.promise host.new ≡ H.promise host.old }
+    ensures sure { Opens (H.promise host.old) (In slot) path.now → IfErr result IsNoFault }
 {
     let Ok(()) = host.open_in(slot, path) else {
         return Err(Refusal::HostFault(Slot::In(slot)));
@@ -119,6 +126,10 @@ fn read_named<H: Host>(
     ensures named { IfErr result (λ _. IsNamed (text_of path.entry)) }
     ensures cause { IfErr result (IsInputRefused slot (H.left host.old slot)) }
     ensures counted { IfErr result (λ refusal. AreCounted refusal (H.faults host.old) (H.faults host.new)) }
+    ensures within { OnOk result (TakesAtMost (limit_of slot) (H.left host.old slot) (H.left host.new slot)) }
+    ensures memory { IfErr result (IsInputWithin (limit_of slot) (H.left host.old slot) (H.left host.new slot)) }
+    ensures promise { H.promise host.new ≡ H.promise host.old }
+    ensures sure { OpensAt (H.promise host.old) (In slot) (text_of path.entry) → IfErr result IsNoFault }
 {
     match path {
         Some(path) => read_input(alloc, host, slot, path),
@@ -157,6 +168,10 @@ pub(crate) fn read_inputs<H: Host>(
     ensures kept { OnOk result (Same (H.faults host.old) (H.faults host.new)) }
     ensures cause { IfErr result (IsFeedRefused (machine_of machine.now) (H.left host.old)) }
     ensures counted { IfErr result (λ refusal. AreCounted refusal (H.faults host.old) (H.faults host.new)) }
+    ensures within { OnOk result (AreWithin (H.left host.old) (H.left host.new)) }
+    ensures memory { IfErr result (IsWithin (H.left host.old) (H.left host.new)) }
+    ensures promise { H.promise host.new ≡ H.promise host.old }
+    ensures sure { ((slot : slots.InSlot) → OpensAt (H.promise host.old) (In slot) (input_path (machine_of machine.now) slot)) → IfErr result IsNoFault }
 {
     let rom = read_input(alloc, host, InSlot::Rom, machine.rom)?;
     let disk = read_named(alloc, host, InSlot::Disk, machine.disk)?;

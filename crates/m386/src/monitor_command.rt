@@ -1,6 +1,6 @@
 //! The command `monitor`.
 
-ghost use Rattle.std.specs.Prelude.{◌≡◌, ◌≤◌, length, IfOk, IfErr, OnOk};
+ghost use Rattle.std.specs.Prelude.{◌≡◌, ◌≢◌, ◌≤◌, length, IfOk, IfErr, OnOk};
 ghost use Rattle.host_io.specs.declared.host.InSlot.TheVariants.{Commands};
 ghost use Rattle.host_io.specs.declared.host.OutSlot.TheVariants.{Report};
 ghost use Rattle.host_io.specs.declared.host.Slot as slots;
@@ -14,6 +14,8 @@ ghost use Rattle.mdl_text.specs.Script.{RisesFrom};
 ghost use Rattle.m386.specs.Slots.{Keeps, OpenedAs, OpenedOnly, path_for};
 ghost use Rattle.m386.specs.Monitored.{Monitored};
 ghost use Rattle.m386.specs.Causes.{AreCounted, IsOpenedUpTo, IsReady, IsRefused};
+ghost use Rattle.m386.specs.Assured.{IsAssured, IsNoFault};
+ghost use Rattle.m386.specs.Within.{IsWithin};
 ghost use Rattle.m386.specs.Feeding.{fed_of};
 ghost use Rattle.m386.specs.Talking.{HasSession, IsAtPowerOn, IsTalkRefused, talk_path};
 
@@ -54,6 +56,9 @@ fn talk<H: Host>(guest: &mut Guest, host: &mut H) -> Result<(), Refusal>
     ensures outputs { SameBut Report (H.took host.old) (H.took host.new) }
     ensures kept { OnOk result (Same (H.faults host.old) (H.faults host.new)) }
     ensures counted { IfErr result (λ refusal. AreCounted refusal (H.faults host.old) (H.faults host.new)) }
+    ensures memory { IfErr result (λ refusal. refusal ≢ Refusal.Memory) }
+    ensures promise { H.promise host.new ≡ H.promise host.old }
+    ensures sure { IsAssured (H.promise host.old) talk_path (H.took host.new) → IfErr result IsNoFault }
     ensures ready { IfErr result (λ refusal. IsReady refusal (H.path host.new (Out Report))) }
     ensures up_to { IfErr result (λ refusal. IsOpenedUpTo refusal (H.path host.old) (H.path host.new)) }
 {
@@ -82,6 +87,9 @@ pub(crate) fn monitor_command<H: Host>(
     ensures kept { OnOk result (Same (H.faults host.old) (H.faults host.new)) }
     ensures refused { IfErr result (IsRefused (Monitor (machine_of machine.now)) (H.left host.old) (H.left host.new) (H.took host.old) (H.took host.new)) }
     ensures counted { IfErr result (λ refusal. AreCounted refusal (H.faults host.old) (H.faults host.new)) }
+    ensures within { IfErr result (IsWithin (H.left host.old) (H.left host.new)) }
+    ensures promise { H.promise host.new ≡ H.promise host.old }
+    ensures sure { IsAssured (H.promise host.old) (path_for (Monitor (machine_of machine.now))) (H.took host.new) → IfErr result IsNoFault }
     ensures ready { IfErr result (λ refusal. IsReady refusal (H.path host.new (Out Report))) }
     ensures up_to { IfErr result (λ refusal. IsOpenedUpTo refusal (H.path host.old) (H.path host.new)) }
     ensures keeps { Keeps (path_for (Monitor (machine_of machine.now))) (H.left host.old) (H.left host.new) (H.path host.old) (H.path host.new) }

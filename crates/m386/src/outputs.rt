@@ -8,6 +8,7 @@ ghost use Rattle.host_io.specs.declared.host.OutSlot as slots;
 ghost use Rattle.host_io.specs.declared.host.OutSlot.TheVariants.{Report};
 ghost use Rattle.host_io.specs.declared.host.Slot.TheVariants.{In, Out};
 ghost use Rattle.host_io.specs.Causes.{HasCause};
+ghost use Rattle.host_io.specs.Promises.{IsFull, IsSure, Opens};
 ghost use Rattle.host_io.specs.Slots.{Same, SameBut};
 ghost use Rattle.host_io.specs.Transfers.{AppendsPrefix};
 ghost use Rattle.std.specs.Io.KnownBytes.{Appends};
@@ -15,6 +16,8 @@ ghost use Rattle.command_words.specs.Jobs.{run_of, text_of};
 ghost use Rattle.m386.specs.Slots.{OpenedAs, OpenedOnly, Gets, GetsPrefix, output_path};
 ghost use Rattle.m386.specs.Headline.{report_of, text_for};
 ghost use Rattle.m386.specs.Causes.{AreCounted, IsOpenedUpTo, IsReady};
+ghost use Rattle.m386.specs.Assured.{AreWritable, OpensAt};
+ghost use Rattle.m386.specs.Feeding.{IsNamed};
 ghost use Rattle.m386.specs.Writing.{image_bytes, IsReportRefused, IsImageRefused, IsWriteRefused};
 
 use crate::refusals::Refusal;
@@ -81,6 +84,8 @@ fn write_image<H: Host>(host: &mut H, slot: OutSlot, pc: &Pc, image: Image) -> R
     ensures paths { Same (H.path host.old) (H.path host.new) }
     ensures left { Same (H.left host.old) (H.left host.new) }
     ensures cause { HasCause (H.faults host.old) (H.faults host.new) (Out slot) result }
+    ensures promise { H.promise host.new ≡ H.promise host.old }
+    ensures sure { OnErr result (IsSure (H.promise host.old) (Out slot) → IsFull (H.promise host.old) slot (H.took host.new slot)) }
 {
     let len = image_len(pc, image);
     let mut at = 0;
@@ -110,6 +115,8 @@ fn save<H: Host>(
     ensures left { Same (H.left host.old) (H.left host.new) }
     ensures kept { OnOk result (Same (H.faults host.old) (H.faults host.new)) }
     ensures counted { IfErr result (λ refusal. AreCounted refusal (H.faults host.old) (H.faults host.new)) }
+    ensures promise { H.promise host.new ≡ H.promise host.old }
+    ensures sure { OpensAt (H.promise host.old) (Out slot) (text_of path.entry) → OnErr result (IsNamed (text_of path.entry) × IsFull (H.promise host.old) slot (H.took host.new slot)) }
 {
     let Some(path) = path else {
         return Ok(());
@@ -134,6 +141,8 @@ pub(crate) fn report<H: Host>(host: &mut H, pc: &Pc) -> Result<(), Refusal>
     ensures left { Same (H.left host.old) (H.left host.new) }
     ensures kept { OnOk result (Same (H.faults host.old) (H.faults host.new)) }
     ensures counted { IfErr result (λ refusal. AreCounted refusal (H.faults host.old) (H.faults host.new)) }
+    ensures promise { H.promise host.new ≡ H.promise host.old }
+    ensures sure { Opens (H.promise host.old) (Out Report) [] → OnErr result (IsFull (H.promise host.old) Report (H.took host.new Report)) }
     ensures ready { IfErr result (λ refusal. IsReady refusal (H.path host.new (Out Report))) }
     ensures up_to { IfErr result (λ refusal. IsOpenedUpTo refusal (H.path host.old) (H.path host.new)) }
 {
@@ -159,6 +168,8 @@ pub(crate) fn write_outputs<H: Host>(host: &mut H, job: &RunJob, pc: &Pc) -> Res
     ensures left { Same (H.left host.old) (H.left host.new) }
     ensures kept { OnOk result (Same (H.faults host.old) (H.faults host.new)) }
     ensures counted { IfErr result (λ refusal. AreCounted refusal (H.faults host.old) (H.faults host.new)) }
+    ensures promise { H.promise host.new ≡ H.promise host.old }
+    ensures sure { OnErr result (¬ (AreWritable (H.promise host.old) (output_path (run_of job.now)) (H.took host.new))) }
     ensures ready { IfErr result (λ refusal. IsReady refusal (H.path host.new (Out Report))) }
     ensures up_to { IfErr result (λ refusal. IsOpenedUpTo refusal (H.path host.old) (H.path host.new)) }
 {

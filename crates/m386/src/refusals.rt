@@ -7,6 +7,7 @@ ghost use Rattle.host_io.specs.declared.host.OutSlot.TheVariants.{Report};
 ghost use Rattle.host_io.specs.declared.host.Slot.TheVariants.{Out};
 ghost use Rattle.host_io.specs.Causes.{HasCause};
 ghost use Rattle.host_io.specs.Openings.{WasOpened};
+ghost use Rattle.host_io.specs.Promises.{IsFull, Opens};
 ghost use Rattle.host_io.specs.Slots.{Same, SameBut};
 ghost use Rattle.host_io.specs.Transfers.{AppendsPrefix};
 ghost use Rattle.m386.specs.Refusals.{slot_name, fault_line, length_line, script_line, unbuilt_line, line_of, status_of};
@@ -147,6 +148,8 @@ fn open_report<H: Host>(host: &mut H, refusal: Refusal) -> Result<(), Failed>
     ensures took { Same (H.took host.old) (H.took host.new) }
     ensures left { Same (H.left host.old) (H.left host.new) }
     ensures cause { HasCause (H.faults host.old) (H.faults host.new) (Out Report) result }
+    ensures promise { H.promise host.new ≡ H.promise host.old }
+    ensures sure { OnErr result (¬ (Opens (H.promise host.old) (Out Report) [])) }
 {
     match refusal {
         Refusal::Late(_) | Refusal::Commands | Refusal::TooLong => Ok(()),
@@ -165,6 +168,7 @@ fn write_line<H: Host>(host: &mut H, refusal: Refusal) -> Result<(), Failed>
     ensures paths { SameBut (Out Report) (H.path host.old) (H.path host.new) }
     ensures left { Same (H.left host.old) (H.left host.new) }
     ensures cause { HasCause (H.faults host.old) (H.faults host.new) (Out Report) result }
+    ensures sure { Opens (H.promise host.old) (Out Report) [] → OnErr result (IsFull (H.promise host.old) Report (H.took host.new Report)) }
 {
     open_report(host, refusal)?;
     write_all(host, OutSlot::Report, line_of(refusal).as_slice())
@@ -185,6 +189,8 @@ pub(crate) fn refuse<H: Host>(host: &mut H, refusal: Refusal) -> Status
     ensures left { Same (H.left host.old) (H.left host.new) }
     ensures faults { SameBut (Out Report) (H.faults host.old) (H.faults host.new) }
     ensures later { H.faults host.old (Out Report) ≤ H.faults host.new (Out Report) }
+    ensures sure { Opens (H.promise host.old) (Out Report) [] → ¬ (IsFull (H.promise host.old) Report (H.took host.new Report))
+        → Same (H.faults host.old) (H.faults host.new) }
 {
     match refusal {
         Refusal::Memory => {}

@@ -14,6 +14,8 @@ ghost use Rattle.m386.specs.Monitored.{Monitored};
 ghost use Rattle.m386.specs.Refusals.{words_line};
 ghost use Rattle.m386.specs.Causes.{AreCounted, IsOpenedUpTo, IsReady};
 ghost use Rattle.m386.specs.Answers.{Accepts, HasLine, IsDone, IsEnded, IsFaulted, IsImageWrong, IsRunUnbuilt, IsScriptBad, SomeRose, Tells};
+ghost use Rattle.m386.specs.Assured.{IsAssured, IsNoFault};
+ghost use Rattle.m386.specs.Within.{AreWithin, IsWithin};
 
 use crate::demo_command::demo_command;
 use crate::dis_command::dis_command;
@@ -31,6 +33,10 @@ fn command<H: Host>(alloc: Global, words: &[&str], host: &mut H) -> Result<(), R
     ensures kept { OnOk result (Same (H.faults host.old) (H.faults host.new)) }
     ensures refused { IfErr result (IsEnded (texts words.now) (H.left host.old) (H.left host.new) (H.took host.old) (H.took host.new)) }
     ensures counted { IfErr result (λ refusal. AreCounted refusal (H.faults host.old) (H.faults host.new)) }
+    ensures within { IfErr result (IsWithin (H.left host.old) (H.left host.new)) }
+    ensures promise { H.promise host.new ≡ H.promise host.old }
+    ensures sure { (job : asked.Job) → Matched (texts words.now) job
+        → IsAssured (H.promise host.old) (path_for job) (H.took host.new) → IfErr result IsNoFault }
     ensures ready { IfErr result (λ refusal. IsReady refusal (H.path host.new (Out Report))) }
     ensures up_to { IfErr result (λ refusal. IsOpenedUpTo refusal (H.path host.old) (H.path host.new)) }
     ensures keeps { (job : asked.Job) → Matched (texts words.now) job
@@ -74,6 +80,7 @@ pub fn m386<H: Host>(alloc: Global, words: &[&str], host: &mut H) -> Status
     ensures fault { result ≡ Status.HostFault → IsFaulted (texts words.now) (H.left host.old) (H.left host.new)
         (H.took host.old) (H.took host.new) (H.path host.old) (H.path host.new) (H.faults host.old) (H.faults host.new) }
     ensures memory { result ≡ Status.Memory → Same (H.took host.old) (H.took host.new) }
+    ensures within { result ≡ Status.Memory → AreWithin (H.left host.old) (H.left host.new) }
 
     // What stays.
     ensures kept { (result ≡ Status.Done) ⊎ (result ≡ Status.Memory) → Same (H.faults host.old) (H.faults host.new) }
@@ -82,6 +89,12 @@ pub fn m386<H: Host>(alloc: Global, words: &[&str], host: &mut H) -> Status
         → Keeps (path_for job) (H.left host.old) (H.left host.new) (H.path host.old) (H.path host.new) }
     ensures unasked { NoneMatched (texts words.now)
         → Keeps report_only (H.left host.old) (H.left host.new) (H.path host.old) (H.path host.new) }
+
+    // Over a host that promises to open what is asked for, and with no output full in the end, no call fails.
+    ensures sure { (job : asked.Job) → Matched (texts words.now) job → IsAssured (H.promise host.old) (path_for job) (H.took host.new)
+        → (result ≢ Status.HostFault) × Same (H.faults host.old) (H.faults host.new) }
+    ensures sure_of_the_line { NoneMatched (texts words.now) → IsAssured (H.promise host.old) report_only (H.took host.new)
+        → Same (H.faults host.old) (H.faults host.new) }
 
     // No output but the report is opened before the run has ended, and none where memory wants.
     ensures unwritten { result ≢ Status.Done → result ≢ Status.HostFault → NoneOpenedBehind (Out Report) (H.path host.old) (H.path host.new) }

@@ -1,4 +1,4 @@
-use Rattle.std.proofs.Common.{rules, ◌≡◌, ℕ, ◌+◌, ◌≤◌, ◌++◌, List, length, take, drop, Option, Result, Ok, Err, OnErr, sym, ap, ◌∙◌, arith, subst}
+use Rattle.std.proofs.Common.{rules, ◌≡◌, ℕ, ◌+◌, ◌++◌, List, take, drop, Option, Result, Ok, Err, OnErr, sym, ap, ◌∙◌, arith, subst}
 use Rattle.std.proofs.lemmas.List.{take-append-drop, drop-take, take-take, take_all}
 use Rattle.std.proofs.KnownBytes.{Appends-trans}
 use Rattle.std.specs.Io.KnownBytes.{Appends}
@@ -40,6 +40,7 @@ loop-at-preserved g c =
       left = λ slot. e.left slot ∙ i.left slot;
       paths = λ slot. e.paths slot ∙ i.paths slot;
       counts = search rules;
+      promise = e.promise ∙ i.promise;
     }
 
 pub returns-in_err-write_all-clause-err : goal.returns-in_err-write_all-clause-err

@@ -1,4 +1,4 @@
-use Rattle.std.proofs.Common.{◌≤◌, ◌-◌, take, length}
+use Rattle.std.proofs.Common.{◌≡◌, ◌≤◌, ◌-◌, take, length}
 use Rattle.std.specs.Io.KnownBytes.{Appends}
 use Rattle.host_io.specs.Slots.{Same, SameBut}
 use Rattle.m386.specs.Writing.{image_bytes}
@@ -12,6 +12,7 @@ invariant-loop-at g l = record {
   left : Same (g.H.Host.left l.fn.host) (g.H.Host.left l.host);
   paths : Same (g.H.Host.path l.fn.host) (g.H.Host.path l.host);
   counts : Same (g.H.Host.faults l.fn.host) (g.H.Host.faults l.host);
+  promise : g.H.Host.promise l.host ≡ g.H.Host.promise l.fn.host;
 }
 
 abbrev pub decreases-loop-at : goal.decreases-loop-at

@@ -3,6 +3,8 @@ use Rattle.m386.specs.Feeding.{fed_of}
 use Rattle.m386.proofs.Slots.{counted_result}
 use Rattle.m386.proofs.Opening.{up_to_result}
 use Rattle.m386.proofs.Ending.{headline_result, write_result}
+use Rattle.m386.proofs.Within.{within_then, result_within}
+use Rattle.m386.proofs.Assured.{run_quiet}
 use Rattle.m386.proofs.run_command.run_command.Goals as goal
 
 pub returns-clause-ok : goal.returns-clause-ok
@@ -30,3 +32,14 @@ pub returns-clause-up_to : goal.returns-clause-up_to
 returns-clause-up_to g c =
     let path = g.H.Host.path in
     up_to_result c.write_outputs.result (path c.args.host.now) (path c.read_inputs.new.host) (path c.write_outputs.new.host) c.in_ok-inputs.ensures.outputs c.write_outputs.ensures.up_to
+
+pub returns-clause-within : goal.returns-clause-within
+returns-clause-within g c =
+    let left = g.H.Host.left in
+    result_within c.write_outputs.result (left c.args.host.now) (left c.write_outputs.new.host)
+    (within_then (left c.args.host.now) (left c.read_inputs.new.host) (left c.write_outputs.new.host) c.in_ok-inputs.ensures.within c.write_outputs.ensures.left)
+
+pub returns-clause-sure : goal.returns-clause-sure
+returns-clause-sure g c =
+    let promise = g.H.Host.promise in
+    run_quiet c.write_outputs.result (promise c.args.host.now) (promise c.read_inputs.new.host) (run_of c.args.job.now) (g.H.Host.took c.write_outputs.new.host) c.read_inputs.ensures.promise c.write_outputs.ensures.sure

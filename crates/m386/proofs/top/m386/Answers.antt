@@ -5,6 +5,10 @@ use Rattle.m386.proofs.Complete.{completed}
 use Rattle.m386.proofs.Ending.{done_headline, done_demo, done_monitor, faulted, imaged}
 use Rattle.m386.proofs.Opening.{unwritten, unopened}
 use Rattle.m386.proofs.Slots.{keeps_told, report_path}
+use Rattle.m386.proofs.Within.{memory_within}
+use Rattle.m386.proofs.Assured.{assured_end, unasked_end}
+use Rattle.host_io.specs.declared.host.OutSlot.TheVariants.{Report}
+use Rattle.host_io.specs.declared.host.Slot.TheVariants.{Out}
 use Rattle.m386.proofs.top.m386.Goals as goal
 
 pub returns-in-Ok-clause-headline : goal.returns-in-Ok-clause-headline
@@ -76,3 +80,30 @@ returns-in-Err-clause-unopened g c =
     let path = g.H.Host.path in
     unopened c.in-Err.refusal c.refuse.result (path c.args.host.now) (path c.command.new.host) (path c.refuse.new.host)
     c.in-Err.ensures.up_to c.refuse.ensures.unopened c.refuse.ensures.status
+
+pub returns-in-Err-clause-within : goal.returns-in-Err-clause-within
+returns-in-Err-clause-within g c =
+    let left = g.H.Host.left in
+    memory_within c.in-Err.refusal c.refuse.result (left c.args.host.now) (left c.command.new.host) (left c.refuse.new.host)
+    c.in-Err.ensures.within c.refuse.ensures.left c.refuse.ensures.status
+
+pub returns-in-Err-clause-sure : goal.returns-in-Err-clause-sure
+returns-in-Err-clause-sure g c =
+    let took = g.H.Host.took in
+    let promise = g.H.Host.promise in
+    let faults = g.H.Host.faults in
+    let told = c.refuse.ensures in
+    λ job matched assured. assured_end (promise c.args.host.now) (promise c.command.new.host) (path_for job) (took c.command.new.host) (took c.refuse.new.host) (g.H.Host.path c.refuse.new.host (Out Report))
+    (faults c.args.host.now) (faults c.command.new.host) (faults c.refuse.new.host) c.in-Err.refusal c.refuse.result (report_path job) c.command.ensures.promise
+    (c.in-Err.ensures.sure job matched) c.in-Err.ensures.counted told.status told.line told.outputs told.sure assured
+
+pub returns-in-Err-clause-sure_of_the_line : goal.returns-in-Err-clause-sure_of_the_line
+returns-in-Err-clause-sure_of_the_line g c =
+    let took = g.H.Host.took in
+    let promise = g.H.Host.promise in
+    let faults = g.H.Host.faults in
+    let told = c.refuse.ensures in
+    λ none assured. unasked_end (texts c.args.words.now) (g.H.Host.left c.args.host.now) (g.H.Host.left c.command.new.host) (took c.args.host.now) (promise c.args.host.now) (promise c.command.new.host) report_only
+    (took c.command.new.host) (took c.refuse.new.host) (g.H.Host.path c.refuse.new.host (Out Report))
+    (faults c.args.host.now) (faults c.command.new.host) (faults c.refuse.new.host) c.in-Err.refusal c.refuse.result none c.in-Err.ensures.refused refl c.command.ensures.promise
+    c.in-Err.ensures.counted told.status told.line told.outputs told.sure assured
