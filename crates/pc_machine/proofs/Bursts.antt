@@ -76,7 +76,7 @@ stays_idle n m e = e
 
 ends_idle : (asks : Bool) (m : Machine BoardState) → asks ≡ false → gate_of m.board ≡ m.state.mem.physical.a20 → EndsBy asks board_rules m (later 1 m)
 ends_idle true m is e = absurd cc
-ends_idle false m is e = ap (λ (a20 : Bool). record { state = counted_with a20 m.state; board = m.board }) (sym e)
+ends_idle false m is e = ap (λ (a20 : Bool). record m { state = counted_with a20 m.state }) (sym e)
 
 one_idle : (m : Machine BoardState) → row_of board_rules m ≡ Idle → IsSettled m → SomeStep board_rules run_policy m (later 1 m)
 one_idle m idle settled = idled board_rules run_policy m (later 1 m) idle (ends_idle m.board.asks m settled.asks settled.a20)
@@ -94,9 +94,10 @@ steps_idle k zero a m ran idle settled = subst (λ (x : Machine BoardState). Ste
     (subst (λ (j : ℕ). StepsFor board_rules on_board [] run_policy j a m) (omega arith) ran)
 steps_idle k (suc n) a m ran idle settled =
     let before = steps_idle k n a m ran idle settled in
+    let next : n + 1 ≡ suc n = omega arith in
     let one = steps_more board_rules on_board [] run_policy (k + n) a (later n m) (later 1 (later n m)) (later 1 (later n m)) before
     (one_idle (later n m) (stays_idle n m idle) (record { a20 = settled.a20; asks = settled.asks })) refl in
-    subst (λ (x : Machine BoardState). StepsFor board_rules on_board [] run_policy (k + suc n) a x) (sym (later_more n m) ∙ ap (λ (j : ℕ). later j m) (omega arith))
+    subst (λ (x : Machine BoardState). StepsFor board_rules on_board [] run_policy (k + suc n) a x) (sym (later_more n m) ∙ ap (λ (j : ℕ). later j m) next)
     (subst (λ (j : ℕ). StepsFor board_rules on_board [] run_policy j a (later 1 (later n m))) (omega arith) one)
 
 -- ---- a burst
