@@ -1,4 +1,4 @@
-use Rattle.std.proofs.Common.{◌≡◌, ℕ, ◌+◌, ap, sym, subst, arith, ◌∙◌}
+use Rattle.std.proofs.Common.{◌≡◌, ℕ, ◌+◌, refl, sym, subst, arith, ◌∙◌}
 use Rattle.mdl_state.specs.Machine.{Machine}
 use Rattle.mdl_board.specs.Board.{BoardState}
 use Rattle.mdl_step.specs.RunLaws.{StepsFor, steps_none}
@@ -51,8 +51,8 @@ returns-then-not-advance-clause-stopped_applied c =
 pub advance-requires : goal.advance-requires
 advance-requires c = omega (arith, c.steps_before_next-burst.ensures.most, c.loop-done.invariant.steps, c.requires.count, c.loop-done-test.true)
 
-pub apply-applied-in-loop-done-requires : goal.apply-applied-in-loop-done-requires
-apply-applied-in-loop-done-requires c =
+pub apply-applied-requires-in-loop-done : goal.apply-applied-requires-in-loop-done
+apply-applied-requires-in-loop-done c =
     let next = c.steps_before_next-burst.ensures in
     let here = c.loop-done.self.state.core.steps in
     let now = c.advance.new.self.state.core.steps in
