@@ -1,1 +1,2 @@
-mod GateWays
+pub mod Parameters
+pub mod Leaving
