@@ -117,6 +117,7 @@ impl<L: Linear, P: Ports> Cpu<L, P> {
     }
 
     /// Delivers a cause, in real mode.
+    #[tactic(auto, using(fault_delivery::proofs::Attempts::real_ready))]
     fn deliver(&mut self, cause: Cause)
         requires mode { has_protection self.old.state.core.regs ≡ false }
         ensures delivered { delivered (by_pick L.pick) cause self.old.state.core self.old.state.mem ≡ (Passed self.new.state.core, self.new.state.mem) }

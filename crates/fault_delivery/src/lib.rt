@@ -1,7 +1,8 @@
-//! The delivery of exceptions and interrupts, in real mode.
+//! The delivery of exceptions and interrupts, in every mode.
 //!
 //! The one contract used above: `deliver` is the written delivery, with those of the faults that arise
-//! on the way, all of it committed. Read `mdl_cpu/specs/Delivery.antt` first, then `DoubleFault.antt`.
+//! on the way, all of it committed. Read `mdl_cpu/specs/TaskDeliveries.antt` first, then `Delivery.antt`
+//! and `DoubleFault.antt`.
 #![tactic(auto)]
 
 mod combining;

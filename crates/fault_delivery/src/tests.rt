@@ -1,4 +1,5 @@
-//! Deliveries worked out by hand from the manual, chapters 9 and 14.
+//! Deliveries of real mode worked out by hand from the manual, chapters 9 and 14. Those of the other modes
+//! are lines of `gate_lines`.
 
 ghost use Rattle.std.specs.Prelude.{◌≡◌, false, [], length, IfOk};
 ghost use Rattle.mdl_cpu.specs.Segments.{has_protection};
@@ -120,6 +121,7 @@ fn frame(memory: &Tlb) -> [u8; 6] {
 }
 
 #[test]
+#[tactic(auto, using(crate::proofs::Attempts::real_ready))]
 fn deliveries_come_to_a_handler(rt: HostRuntime) -> Result<(), Fail> {
     // The cause, the limit of the table, EFLAGS, and then the vector that is delivered, EFLAGS, and the frame.
     for (cause, limit, before, vector, after, bytes) in [
@@ -189,6 +191,7 @@ fn deliveries_come_to_a_handler(rt: HostRuntime) -> Result<(), Fail> {
 }
 
 #[test]
+#[tactic(auto, using(crate::proofs::Attempts::real_ready))]
 fn a_table_or_a_stack_that_is_too_short_shuts_down(rt: HostRuntime) -> Result<(), Fail> {
     // The cause, the limit of the table, and SP. With SP 5 two of three words would fit.
     for (cause, limit, sp) in [

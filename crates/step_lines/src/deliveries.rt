@@ -27,6 +27,7 @@ fn soft_cause(vector: u8, back: u32) -> Cause {
 }
 
 /// A cause is delivered with these registers; nothing where memory holds writes still.
+#[tactic(auto, using(fault_delivery::proofs::Attempts::real_ready))]
 fn ended_by<L: Linear>(regs: &Regs, lin: &mut L, cause: Cause, code: u16) -> Option<Ending> {
     if lin.room() < ROOM {
         return None;

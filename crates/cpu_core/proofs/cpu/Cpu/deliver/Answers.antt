@@ -7,8 +7,9 @@ use Rattle.mdl_cpu.specs.Segments.{has_protection}
 use Rattle.operands.specs.Whole.{whole}
 use Rattle.cpu_core.specs.Plain.{IsReady}
 use Rattle.cpu_core.proofs.Covered.{plain_of}
-use Rattle.mdl_cpu.specs.Steady.{IsSound, steady_sound}
+use Rattle.mdl_cpu.specs.Steady.{IsSound}
 use Rattle.mdl_cpu.specs.Delivery.{Arrival, deliver}
+use Rattle.mdl_cpu.proofs.ModeLaws.{real_delivery}
 use Rattle.mdl_step.specs.Delivering.{arrived, delivered}
 use Rattle.fault_delivery.specs.Arrivals.{arrival}
 use Rattle.cpu_core.proofs.Settled.{delivered_plain, ready}
@@ -28,8 +29,9 @@ invariant_of-self g c =
     let before : packed ≡ old = ap (λ e. record inside.regs { eflags = e }) c.pack-self-inside.ensures in
     let real : has_protection old ≡ false = subst (λ (x : Machine _). has_protection x.state.core.regs ≡ false) (sym c.self.view_is) c.requires.mode in
     subst (λ (r : Regs). IsReady r n) (sym (ap (whole new) c.unpack-self-inside.ensures ∙ whole_unpacked new))
-    (ready new n (steady_sound packed new now.ensures.steady (subst IsSound (sym before) c.self.invariant.sound))
-    (delivered_plain (by_pick g.L.Linear.pick) c.args.cause packed m n (arrival now.result new) (plain_of old m c.self.invariant real) now.ensures.run))
+    (ready new n (now.ensures.sound (subst IsSound (sym before) c.self.invariant.sound))
+    (delivered_plain (by_pick g.L.Linear.pick) c.args.cause packed m n (arrival now.result new) (plain_of old m c.self.invariant real)
+    (now.ensures.run ∙ real_delivery (by_pick g.L.Linear.pick) c.args.cause packed m real)))
 
 pub returns-clause-delivered : goal.returns-clause-delivered
 returns-clause-delivered g c =
@@ -39,10 +41,12 @@ returns-clause-delivered g c =
     let now = c.deliver-delivered in
     let new = now.new.regs in
     let n = g.L.Linear.seen now.new.lin in
+    let real : has_protection packed ≡ false = subst (λ (x : Machine _). has_protection x.state.core.regs ≡ false) (sym c.self.view_is) c.requires.mode in
     let before : packed ≡ m.state.core.regs = ap (λ e. record inside.regs { eflags = e }) c.pack-self-inside.ensures in
     let left : Core = record m.state.core { regs = whole new c.unpack-self-inside.result; activity = c.activity_at-self-inside.result; latches = record inside.latches { pending = c.pending_at-self-inside.result } } in
     subst (λ (x : Machine _). delivered (by_pick g.L.Linear.pick) c.args.cause x.state.core x.state.mem ≡ (Passed left, n)) c.self.view_is
     (ap (λ (w : Outcome Arrival × Mem). on w (λ there k. (Passed (arrived m.state.core there), k)))
-    (ap (λ (r : Regs). deliver (by_pick g.L.Linear.pick) c.args.cause r m.state.mem) (sym before) ∙ sym now.ensures.run)
+    (ap (λ (r : Regs). deliver (by_pick g.L.Linear.pick) c.args.cause r m.state.mem) (sym before)
+    ∙ sym (now.ensures.run ∙ real_delivery (by_pick g.L.Linear.pick) c.args.cause packed m.state.mem real))
     ∙ ap (λ (k : Core). (Passed k, n)) (arrived_as m.state.core now.result new (whole new c.unpack-self-inside.result) c.activity_at-self-inside.result c.pending_at-self-inside.result
     (ap (whole new) c.unpack-self-inside.ensures ∙ whole_unpacked new) (c.activity_at-self-inside.ensures new) (c.pending_at-self-inside.ensures new)))
