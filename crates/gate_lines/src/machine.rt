@@ -90,6 +90,7 @@ impl Machine {
     }
 
     /// Delivers what a line says.
+    #[tactic(auto, using(fault_delivery::proofs::Attempts::task_ready))]
     fn deliver(&mut self, line: &Line) -> Answer {
         if self.memory.room() < ROOM {
             return Answer::Silent;
