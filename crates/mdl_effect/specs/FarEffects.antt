@@ -1,11 +1,13 @@
 -- Which instructions are those of far flow, and what each of them does. Manual, chapters 3, 6, 7, 14, 15 and 17.
-use Rattle.std.specs.Prelude.{ℕ, ◌+◌, ◌==◌, Bool, true, false}
+use Rattle.std.specs.Prelude.{ℕ, ◌+◌, ◌==◌, Bool, true, false, None}
 use Rattle.mdl_state.specs.declared.Size.{Size}
 use Rattle.mdl_state.specs.declared.Size.TheVariants.{B2}
 use Rattle.mdl_state.specs.declared.Regs.{Regs}
 use Rattle.mdl_state.specs.declared.Next.TheVariants as next
 use Rattle.mdl_state.specs.Bytes.{bytes_of}
-use Rattle.mdl_state.specs.Attempt.{Plan, Done, then_plan}
+use Rattle.mdl_state.specs.State.{Mem}
+use Rattle.mdl_state.specs.Serving.{Serve, Outcome as Attempted, Passed, Failed, NoStep}
+use Rattle.mdl_state.specs.Attempt.{Plan, Done, then_plan, attempt}
 use Rattle.mdl_insn.specs.declared.instruction.Insn.{Insn}
 use Rattle.mdl_insn.specs.declared.instruction.Operand.{Operand}
 use Rattle.mdl_insn.specs.declared.instruction.Operand.TheVariants.{At, Far}
@@ -13,10 +15,16 @@ use Rattle.mdl_insn.specs.declared.mnemonics.Op.{Op}
 use Rattle.mdl_insn.specs.declared.mnemonics.Op.TheVariants as ops
 use Rattle.mdl_cpu.specs.declared.Outcome.{Outcome}
 use Rattle.mdl_cpu.specs.declared.Outcome.TheVariants as outcome
+use Rattle.mdl_cpu.specs.declared.Reason.{Reason}
+use Rattle.mdl_cpu.specs.declared.Reason.TheVariants.{Jump, Call, Return}
+use Rattle.mdl_cpu.specs.declared.Request.{Request}
+use Rattle.mdl_cpu.specs.declared.Switched.{Switched}
+use Rattle.mdl_cpu.specs.declared.Switched.TheVariants as switched
 use Rattle.mdl_cpu.specs.Addresses.{offset_of}
 use Rattle.mdl_cpu.specs.Access.{load_from}
 use Rattle.mdl_cpu.specs.Transfers.{Transfer, made, jump_far_plan, call_far_plan}
 use Rattle.mdl_cpu.specs.Returns.{return_far_plan, interrupt_return_plan}
+use Rattle.mdl_cpu.specs.Switch.{Left, left, switch}
 use Rattle.mdl_effect.specs.Operands.{After, NoPort, no_such, value_of}
 
 -- the mnemonics of far flow
@@ -83,17 +91,53 @@ far_transfer insn r back = far_by insn.op insn r back
 -- ---- behind it
 
 -- code goes on at the new CS and EIP
-abbrev pub go_on : Regs → Plan After
-go_on r = Done (record { regs = r; next = next.Landed; access = NoPort })
+abbrev pub going_on : Regs → After
+going_on r = record { regs = r; next = next.Landed; access = NoPort }
 
--- so it does behind a transfer that is made. Real mode and V86 have no other; the switch to a task is none of this plan.
-abbrev pub go_on_by : Outcome → Regs → Plan After
-go_on_by outcome.Done r = go_on r
-go_on_by _ r = no_such
+-- code goes on in another task, whose T bit is told
+abbrev pub in_task : Bool → Regs → After
+in_task trap r = record { regs = r; next = next.Task trap; access = NoPort }
 
-abbrev pub behind_transfer : FarTransfer → Plan After
-behind_transfer f = go_on_by f.transfer.outcome f.transfer.regs
+-- why the task is left
+abbrev pub reason_of : Op → Reason
+reason_of ops.Callf = Call
+reason_of ops.Iret = Return
+reason_of _ = Jump
 
--- what they do where they lead to no other task
-unfoldable pub far_effect : Insn → Regs → ℕ → Plan After
-far_effect insn r back = then_plan (far_transfer insn r back) behind_transfer
+-- the switch that is asked for; what is saved as EIP is that behind the instruction
+abbrev pub far_request : Op → ℕ → Bool → ℕ → Request
+far_request op task direct back = record {
+  selector = task;
+  reason = reason_of op;
+  direct = direct;
+  back = back;
+  code = None;
+  ext = false;
+  fault = false;
+}
+
+-- What a switch comes to: a fault has the registers of the task in which it is raised.
+abbrev pub in_either_task : Attempted Switched → Regs → Mem → Left After × Mem
+in_either_task (Passed (switched.Done trap)) r m = left (Passed (in_task trap r)) r m
+in_either_task (Passed (switched.OldFault fault)) r m = left (Failed fault) r m
+in_either_task (Passed (switched.NewFault fault)) r m = left (Failed fault) r m
+in_either_task (Failed fault) r m = left (Failed fault) r m
+in_either_task NoStep r m = left NoStep r m
+
+abbrev pub switching : Left Switched × Mem → Left After × Mem
+switching w = in_either_task w.0.outcome w.0.regs w.1
+
+-- on at the new place, or by a switch to the task
+abbrev pub by_outcome : Outcome → Serve → Op → FarTransfer → ℕ → Mem → Left After × Mem
+by_outcome outcome.Done serve op f back m = left (Passed (going_on f.transfer.regs)) f.transfer.regs m
+by_outcome (outcome.Switch task) serve op f back m = switching (switch serve f.transfer.regs (far_request op task f.direct back) m)
+
+-- a fault of the transfer leaves the registers
+abbrev pub behind_transfer : Serve → Op → Regs → ℕ → Attempted FarTransfer × Mem → Left After × Mem
+behind_transfer serve op r back (Passed f, n) = by_outcome f.transfer.outcome serve op f back n
+behind_transfer serve op r back (Failed fault, n) = left (Failed fault) r n
+behind_transfer serve op r back (NoStep, n) = left NoStep r n
+
+-- A far instruction whole: the transfer is attempted and placed, and where it leads to another task, the switch follows.
+unfoldable pub far_run : Serve → Insn → Regs → ℕ → Mem → Left After × Mem
+far_run serve insn r back m = behind_transfer serve insn.op r back (attempt serve 0 (far_transfer insn r back) m)

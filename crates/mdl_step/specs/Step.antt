@@ -1,5 +1,5 @@
 -- One step of the machine over any board. Manual, chapters 9, 10 and 12.
-use Rattle.std.specs.Prelude.{◌≡◌, ℕ, ◌+◌, ◌%◌, ◌^◌, ◌==◌, ◌&&◌, not, Bool, true, false, if◌then◌else◌, [], IsTrue, bit_or}
+use Rattle.std.specs.Prelude.{◌≡◌, ℕ, ◌+◌, ◌%◌, ◌^◌, ◌==◌, Bool, true, false, if◌then◌else◌, [], IsTrue, bit_or}
 use Rattle.std.specs.FinMap.{empty}
 use Rattle.mdl_state.specs.declared.Regs.{Regs}
 use Rattle.mdl_state.specs.declared.Fault.{Fault}
@@ -13,13 +13,12 @@ use Rattle.mdl_state.specs.Machine.{Rules, Machine}
 use Rattle.mdl_state.specs.Bytes.{bit}
 use Rattle.mdl_state.specs.Watches.{watching, unwatched}
 use Rattle.mdl_state.specs.Accesses.{with_a20}
-use Rattle.mdl_state.specs.Serving.{Serve, Policy, Outcome, Passed, Failed, NoStep, handled, by_list, with_items}
-use Rattle.mdl_state.specs.Attempt.{attempt}
+use Rattle.mdl_state.specs.Serving.{Serve, Policy, Outcome, Passed, Failed, NoStep, by_list, with_items}
 use Rattle.mdl_num.specs.Flags.{with_bit}
-use Rattle.mdl_cpu.specs.Segments.{has_protection}
 use Rattle.mdl_cpu.specs.SystemFlags.{TF, RF}
 use Rattle.mdl_cpu.specs.Steady.{has_paging}
 use Rattle.mdl_cpu.specs.Breakpoints.{data_breakpoints}
+use Rattle.mdl_cpu.specs.Switch.{Left}
 use Rattle.mdl_cpu.specs.declared.Cause.{Cause}
 use Rattle.mdl_cpu.specs.Causes.{fault_cause, event_cause, soft_cause, with_address}
 use Rattle.mdl_insn.specs.declared.instruction.Insn.{Insn}
@@ -29,15 +28,15 @@ use Rattle.mdl_insn.specs.declared.mnemonics.Op.{Op}
 use Rattle.mdl_insn.specs.declared.mnemonics.Op.TheVariants as ops
 use Rattle.mdl_effect.specs.Operands.{After}
 use Rattle.mdl_effect.specs.Ports.{Accesses}
-use Rattle.mdl_step.specs.Effects.{effect}
+use Rattle.mdl_step.specs.Effects.{run_whole}
 use Rattle.mdl_step.specs.Fetching.{Code, Instruction, Refused, Fetches}
 use Rattle.mdl_step.specs.Boundary.{Boundary, Idle, Trap, Break, Nmi, Line, Execute, boundary}
 use Rattle.mdl_step.specs.Delivering.{with_debug_bits, BT, delivered}
 use Rattle.mdl_step.specs.Events.{after_reset}
 
--- the registers are those of real mode, and nothing is debugged. Own: Steps that are not built.
+-- no breakpoint is enabled. Own: Steps that are not built.
 abbrev pub is_covered : Regs → Bool
-is_covered r = not (has_protection r) && not (bit r.eflags TF) && r.dr7 % 0x100 == 0
+is_covered r = r.dr7 % 0x100 == 0
 
 -- one step more
 abbrev pub counted : Core → Core
@@ -141,14 +140,21 @@ remapped _ _ r m = m
 
 -- ---- an instruction
 
--- an attempt at it, with the data breakpoints looked for
-abbrev pub attempted : Serve → Core → Insn → ℕ → ℕ → ℕ → Mem → Outcome After × Mem
-attempted serve core insn back given free m = attempt serve given (effect insn core.regs back free) (watching m (data_breakpoints core.regs) 0)
+-- the instruction, with the data breakpoints looked for
+abbrev pub attempted : Serve → Core → Insn → ℕ → ℕ → ℕ → Mem → Left After × Mem
+attempted serve core insn back given free m = run_whole serve insn core.regs back given free (watching m (data_breakpoints core.regs) 0)
 
--- what the processor comes to
+-- what the processor comes to: it goes on, or a fault is delivered, in the task in which it is raised
+abbrev pub ended : Outcome After → Serve → Core → Insn → ℕ → Regs → Mem → Outcome Core × Mem
+ended (Passed after) serve core insn back r m = passed_by after.next serve core insn after back m.hits (remapped insn.op insn.a after.regs (unwatched m))
+ended (Failed fault) serve core insn back r m = faulted serve (record core { regs = r }) fault (unwatched m)
+ended NoStep serve core insn back r m = (NoStep, m)
+
+abbrev pub ended_by : Serve → Core → Insn → ℕ → Left After × Mem → Outcome Core × Mem
+ended_by serve core insn back w = ended w.0.outcome serve core insn back w.0.regs w.1
+
 abbrev pub executed : Serve → Core → Insn → ℕ → ℕ → ℕ → Mem → Outcome Core × Mem
-executed serve core insn back given free m = handled (attempted serve core insn back given free m)
-    (λ after n. passed_by after.next serve core insn after back n.hits (remapped insn.op insn.a after.regs (unwatched n))) (λ fault n. faulted serve core fault (unwatched n))
+executed serve core insn back given free m = ended_by serve core insn back (attempted serve core insn back given free m)
 
 -- an instruction that faults leaves the board
 abbrev pub MovesBoard : {B : Type 0} → Rules B → Outcome After → ℕ → B → B → Type 0
@@ -159,7 +165,7 @@ MovesBoard rules NoStep given old new = ⊥
 -- what was fetched is executed, or its fault delivered
 abbrev pub Comes : {B : Type 0} → Rules B → Serve → Core → Code → ℕ → Mem → B → Outcome Core × Mem → B → Type 0
 Comes rules serve core (Instruction insn count) free m old w new = (given : ℕ)
-    × MovesBoard rules (attempted serve core insn (behind core.regs count) given free m).0 given old new
+    × MovesBoard rules (attempted serve core insn (behind core.regs count) given free m).0.outcome given old new
     × (executed serve core insn (behind core.regs count) given free m ≡ w)
 Comes rules serve core (Refused fault) free m old w new = (new ≡ old) × (faulted serve core fault m ≡ w)
 
