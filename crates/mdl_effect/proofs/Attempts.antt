@@ -1,5 +1,5 @@
 -- What an attempt at an instruction leaves, where it passes.
-use Rattle.std.proofs.Common.{◌≡◌, ℕ, Bool, true, false, List, sym, subst}
+use Rattle.std.proofs.Common.{◌≡◌, ℕ, Bool, true, List, sym, subst}
 use Rattle.std.specs.Prelude.{⊤}
 use Rattle.mdl_state.specs.declared.Fault.{Fault}
 use Rattle.mdl_state.specs.declared.Regs.{Regs}
@@ -9,15 +9,15 @@ use Rattle.mdl_state.specs.Attempt.{Plan, tried}
 use Rattle.mdl_state.specs.Ends.{IfPassed, tried_ends}
 use Rattle.mdl_insn.specs.declared.instruction.Insn.{Insn}
 use Rattle.mdl_insn.specs.Spelling.{Spelt}
-use Rattle.mdl_cpu.specs.Segments.{has_protection, is_protected}
+use Rattle.mdl_cpu.specs.Segments.{is_protected}
 use Rattle.mdl_effect.specs.Operands.{After}
 use Rattle.mdl_effect.specs.DataEffects.{runs_data, data_effect}
 use Rattle.mdl_effect.specs.FlowEffects.{runs_flow, flow_effect}
 use Rattle.mdl_effect.specs.StringEffects.{runs_string, string_plan}
-use Rattle.mdl_effect.specs.FarEffects.{runs_far, far_effect}
+use Rattle.mdl_effect.specs.FarEffects.{runs_far, FarTransfer, far_transfer}
 use Rattle.mdl_effect.specs.ProtectionEffects.{is_protected_only}
 use Rattle.mdl_effect.specs.SystemEffects.{runs_system, system_effect}
-use Rattle.mdl_effect.specs.Ways.{IsDefined, Leaves, IsComplete, LeavesSound, IsSystemComplete}
+use Rattle.mdl_effect.specs.Ways.{IsDefined, Leaves, IsComplete, LeavesSound, IsSystemComplete, LeavesFar, IsFarComplete}
 use Rattle.mdl_effect.proofs.FormLaws.{spelt_formed}
 use Rattle.mdl_effect.proofs.DataWays.{data_complete}
 use Rattle.mdl_effect.proofs.FlowWays.{flow_complete}
@@ -36,9 +36,8 @@ flow_spelt bytes big insn r back h e = flow_complete insn r back (spelt_formed b
 pub string_spelt : (bytes : List ℕ) (big : Bool) (insn : Insn) (r : Regs) (free : ℕ) → Spelt bytes big insn → runs_string insn.op ≡ true → IsComplete r (string_plan insn r free)
 string_spelt bytes big insn r free h e = string_complete insn r free e
 
-pub far_spelt : (bytes : List ℕ) (big : Bool) (insn : Insn) (r : Regs) (back : ℕ) → Spelt bytes big insn → runs_far insn ≡ true → has_protection r ≡ false
-    → IsComplete r (far_effect insn r back)
-far_spelt bytes big insn r back h e real = far_complete insn r back real (spelt_formed bytes big insn h) e
+pub far_spelt : (bytes : List ℕ) (big : Bool) (insn : Insn) (r : Regs) (back : ℕ) → Spelt bytes big insn → runs_far insn ≡ true → IsFarComplete r (far_transfer insn r back)
+far_spelt bytes big insn r back h e = far_complete insn r back (spelt_formed bytes big insn h) e
 
 pub system_spelt : (bytes : List ℕ) (big : Bool) (insn : Insn) (r : Regs) (back : ℕ) → Spelt bytes big insn → runs_system insn ≡ true → (is_protected_only insn.op ≡ true → is_protected r ≡ true)
     → IsSystemComplete r (system_effect insn r back)
@@ -71,3 +70,9 @@ pub system_leaves : (bytes : List ℕ) (big : Bool) (insn : Insn) (r : Regs) (ba
     → Spelt bytes big insn → runs_system insn ≡ true → (answer, n) ≡ tried serve given (system_effect insn r back) m → IfPassed (LeavesSound r) answer
 system_leaves bytes big insn r back serve given m n answer h e ran = subst (λ (w : Outcome After × Mem). IfPassed (LeavesSound r) w.0) (sym ran)
     (tried_ends (LeavesSound r) (λ (_ : Fault). ⊤) serve given (system_effect insn r back) m (system_sound insn r back (spelt_formed bytes big insn h) e))
+
+-- what an attempt at a far transfer answers leaves sound registers
+pub transfer_leaves : (bytes : List ℕ) (big : Bool) (insn : Insn) (r : Regs) (back : ℕ) (serve : Serve) (given : ℕ) (m n : Mem) (answer : Outcome FarTransfer)
+    → Spelt bytes big insn → runs_far insn ≡ true → (answer, n) ≡ tried serve given (far_transfer insn r back) m → IfPassed (LeavesFar r) answer
+transfer_leaves bytes big insn r back serve given m n answer h e ran = subst (λ (w : Outcome FarTransfer × Mem). IfPassed (LeavesFar r) w.0) (sym ran)
+    (tried_ends (LeavesFar r) IsDefined serve given (far_transfer insn r back) m (far_spelt bytes big insn r back h e))

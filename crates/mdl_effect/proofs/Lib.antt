@@ -9,6 +9,7 @@ pub mod DataWays
 pub mod FlowWays
 pub mod StringWays
 pub mod FarWays
+pub mod ImageFlags
 pub mod ProtectionWays
 pub mod SystemWays
 pub mod Attempts

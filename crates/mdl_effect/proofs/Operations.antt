@@ -7,7 +7,7 @@ use Rattle.mdl_state.specs.declared.Seg.TheVariants.{Cs, Ss}
 use Rattle.mdl_state.specs.declared.Regs.{Regs}
 use Rattle.mdl_state.specs.declared.Fault.{Fault}
 use Rattle.mdl_state.specs.Registers.{seg_of}
-use Rattle.mdl_state.specs.Attempt.{Plan, Done, Fail, Load, Store, then_plan, checked}
+use Rattle.mdl_state.specs.Attempt.{Plan, Done, Fail, Load, Store, Translate, Get, Hold, Input, then_plan, checked}
 use Rattle.mdl_state.specs.Ends.{Ends, then_ends, either_ends}
 use Rattle.mdl_insn.specs.declared.instruction.Operand.{Operand}
 use Rattle.mdl_insn.specs.declared.instruction.Operand.TheVariants.{Nothing, Gpr, Imm, At, Rel}
@@ -34,6 +34,17 @@ pub record Ways {A : Type 0} (P : A → Type 0) (plan : Plan A) : Type 0 where
 
 pub passes : {A : Type 0} {P : A → Type 0} {x : A} → P x → Ways P (Done x)
 passes h = record { ends = h }
+
+-- weaker facts
+pub weaker : {A : Type 0} (P R : A → Type 0) (Q S : Fault → Type 0) (plan : Plan A) → ((x : A) → P x → R x) → ((fault : Fault) → Q fault → S fault) → Ends P Q plan → Ends R S plan
+weaker P R Q S (Done x) f g h = f x h
+weaker P R Q S (Fail fault) f g h = g fault h
+weaker P R Q S (Load lin size who k) f g h = λ value. weaker P R Q S (k value) f g (h value)
+weaker P R Q S (Store lin size value who k) f g h = weaker P R Q S k f g h
+weaker P R Q S (Translate lin size access k) f g h = λ place. weaker P R Q S (k place) f g (h place)
+weaker P R Q S (Get place size k) f g h = λ value. weaker P R Q S (k value) f g (h value)
+weaker P R Q S (Hold place size value k) f g h = weaker P R Q S k f g h
+weaker P R Q S (Input port size k) f g h = λ value. weaker P R Q S (k value) f g (h value)
 
 -- an instruction that goes on behind itself
 pub follows : {o r : Regs} → Steady o r → Ways (Leaves o) (follow r)

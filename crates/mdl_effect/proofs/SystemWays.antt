@@ -10,7 +10,7 @@ use Rattle.mdl_state.specs.declared.Next.{Next}
 use Rattle.mdl_state.specs.declared.Next.TheVariants.{Soft, Task}
 use Rattle.mdl_state.specs.declared.Regs.{Regs}
 use Rattle.mdl_state.specs.Bytes.{bit}
-use Rattle.mdl_state.specs.Attempt.{Plan, Done, Fail, Load, Store, Translate, Get, Hold, Input}
+use Rattle.mdl_state.specs.Attempt.{Plan, Fail}
 use Rattle.mdl_state.specs.Ends.{Ends, either_ends}
 use Rattle.mdl_num.specs.Flags.{is_set, with_bit}
 use Rattle.mdl_num.specs.declared.status.TheConstants.{OF}
@@ -36,24 +36,14 @@ use Rattle.mdl_effect.specs.SystemEffects.{is_system, is_mov, is_special_move, r
 use Rattle.mdl_effect.specs.Forms.{IsFormedAs, IsFormed}
 use Rattle.mdl_effect.specs.Ways.{IsDefined, Leaves, LeavesTo, LeavesSound, IsSystemComplete}
 use Rattle.mdl_effect.proofs.Registers.{stays, reg_stays, value_stays, same_bit, interrupts_stay}
-use Rattle.mdl_effect.proofs.FarWays.{image_stays}
-use Rattle.mdl_effect.proofs.Operations.{follows, Ways, passes, fails, either_way, then_way, load_then, store_any, store_then, push_then, pop_then, place_read, reads}
+use Rattle.mdl_effect.proofs.ImageFlags.{image_stays}
+use Rattle.mdl_effect.proofs.Operations.{follows, Ways, passes, weaker, fails, either_way, then_way, load_then, store_any, store_then, push_then, pop_then, place_read, reads}
 use Rattle.mdl_effect.proofs.LoadWays.{rows_way}
 use Rattle.mdl_effect.proofs.PortWays.{port_then}
 use Rattle.mdl_effect.proofs.LevelWays.{if_false, at_level_0, stores_word}
 use Rattle.mdl_effect.proofs.ProtectionWays.{protected_way}
 
 -- ---- what leaves the mode leaves the registers sound
-
-weaker : {A : Type 0} (P R : A → Type 0) (Q S : Fault → Type 0) (plan : Plan A) → ((x : A) → P x → R x) → ((fault : Fault) → Q fault → S fault) → Ends P Q plan → Ends R S plan
-weaker P R Q S (Done x) f g h = f x h
-weaker P R Q S (Fail fault) f g h = g fault h
-weaker P R Q S (Load lin size who k) f g h = λ value. weaker P R Q S (k value) f g (h value)
-weaker P R Q S (Store lin size value who k) f g h = weaker P R Q S k f g h
-weaker P R Q S (Translate lin size access k) f g h = λ place. weaker P R Q S (k place) f g (h place)
-weaker P R Q S (Get place size k) f g h = λ value. weaker P R Q S (k value) f g (h value)
-weaker P R Q S (Hold place size value k) f g h = weaker P R Q S k f g h
-weaker P R Q S (Input port size k) f g h = λ value. weaker P R Q S (k value) f g (h value)
 
 ordinary : (next : Next) (old new : Regs) → IsOrdinary next → LeavesTo next old new
 ordinary (Soft vector) old new h = absurd h

@@ -6,8 +6,10 @@ use Rattle.mdl_state.specs.declared.Next.{Next}
 use Rattle.mdl_state.specs.declared.Next.TheVariants.{Soft, Task}
 use Rattle.mdl_state.specs.Attempt.{Plan}
 use Rattle.mdl_state.specs.Ends.{Ends}
-use Rattle.mdl_cpu.specs.Steady.{IsSound, Steady}
+use Rattle.mdl_cpu.specs.Steady.{IsSound, Steady, StaysSound}
+use Rattle.mdl_cpu.specs.Transfers.{IfSwitch}
 use Rattle.mdl_effect.specs.Operands.{After, IsOrdinary}
+use Rattle.mdl_effect.specs.FarEffects.{FarTransfer}
 
 -- the fault is not that of an instruction that is not defined
 abbrev pub IsDefined : Fault → Type 0
@@ -35,3 +37,13 @@ LeavesSound r after = (IsSound r → IsSound after.regs) × LeavesTo after.next 
 -- The same of an instruction that may change the mode.
 abbrev pub IsSystemComplete : Regs → Plan After → Type 0
 IsSystemComplete r plan = Ends (LeavesSound r) IsDefined plan
+
+-- A far transfer may change the level, and enter or leave V86, and leaves registers that are sound where they were so. Where a
+-- switch follows it leaves them as they were.
+pub record LeavesFar (r : Regs) (f : FarTransfer) : Type 0 where
+  pub stays : StaysSound r f.transfer.regs
+  pub same : IfSwitch f.transfer.outcome (f.transfer.regs ≡ r)
+
+-- the same of a far transfer
+abbrev pub IsFarComplete : Regs → Plan FarTransfer → Type 0
+IsFarComplete r plan = Ends (LeavesFar r) IsDefined plan
