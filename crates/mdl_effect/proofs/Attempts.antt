@@ -17,13 +17,14 @@ use Rattle.mdl_effect.specs.StringEffects.{runs_string, string_plan}
 use Rattle.mdl_effect.specs.FarEffects.{runs_far, FarTransfer, far_transfer}
 use Rattle.mdl_effect.specs.ProtectionEffects.{is_protected_only}
 use Rattle.mdl_effect.specs.SystemEffects.{runs_system, system_effect}
-use Rattle.mdl_effect.specs.Ways.{IsDefined, Leaves, IsComplete, LeavesSound, IsSystemComplete, LeavesFar, IsFarComplete}
+use Rattle.mdl_effect.specs.Ways.{IsDefined, Leaves, IsComplete, LeavesSound, IsSystemComplete, LeavesFar, IsFarComplete, PagesAs}
 use Rattle.mdl_effect.proofs.FormLaws.{spelt_formed}
 use Rattle.mdl_effect.proofs.DataWays.{data_complete}
 use Rattle.mdl_effect.proofs.FlowWays.{flow_complete}
 use Rattle.mdl_effect.proofs.StringWays.{string_complete}
 use Rattle.mdl_effect.proofs.FarWays.{far_complete}
 use Rattle.mdl_effect.proofs.SystemWays.{system_complete, system_sound}
+use Rattle.mdl_effect.proofs.PagingWays.{paging_kept}
 
 -- ---- what some bytes spell comes to no missing row
 
@@ -76,3 +77,9 @@ pub transfer_leaves : (bytes : List ℕ) (big : Bool) (insn : Insn) (r : Regs) (
     → Spelt bytes big insn → runs_far insn ≡ true → (answer, n) ≡ tried serve given (far_transfer insn r back) m → IfPassed (LeavesFar r) answer
 transfer_leaves bytes big insn r back serve given m n answer h e ran = subst (λ (w : Outcome FarTransfer × Mem). IfPassed (LeavesFar r) w.0) (sym ran)
     (tried_ends (LeavesFar r) IsDefined serve given (far_transfer insn r back) m (far_spelt bytes big insn r back h e))
+
+-- what one of the system answers leaves paging and the tables, unless it loads them
+pub system_pages : (bytes : List ℕ) (big : Bool) (insn : Insn) (r : Regs) (back : ℕ) (serve : Serve) (given : ℕ) (m n : Mem) (answer : Outcome After)
+    → Spelt bytes big insn → runs_system insn ≡ true → (answer, n) ≡ tried serve given (system_effect insn r back) m → IfPassed (λ (after : After). PagesAs insn.op insn.a r after.regs) answer
+system_pages bytes big insn r back serve given m n answer h e ran = subst (λ (w : Outcome After × Mem). IfPassed (λ (after : After). PagesAs insn.op insn.a r after.regs) w.0) (sym ran)
+    (tried_ends (λ (after : After). PagesAs insn.op insn.a r after.regs) (λ (_ : Fault). ⊤) serve given (system_effect insn r back) m (paging_kept insn r back (spelt_formed bytes big insn h) e))

@@ -12,4 +12,5 @@ pub mod FarWays
 pub mod ImageFlags
 pub mod ProtectionWays
 pub mod SystemWays
+pub mod PagingWays
 pub mod Attempts

@@ -59,7 +59,7 @@ steadily {r} {plan} h = record { ends = weaker (Leaves r) (LeavesSound r) IsDefi
 by_io_rights : {P : After → Type 0} (r : Regs) {plan : Plan After} → Ways P plan → Ways P (with_io_rights r plan)
 by_io_rights r h = rows_way (io_rows r) _ (omega arith, tt) h
 
-by_sensitive : {P : After → Type 0} (r : Regs) {plan : Plan After} → Ways P plan → Ways P (sensitive r plan)
+pub by_sensitive : {P : After → Type 0} (r : Regs) {plan : Plan After} → Ways P plan → Ways P (sensitive r plan)
 by_sensitive r h = rows_way (sensitive_rows r) _ (omega arith, tt) h
 
 -- ---- interrupts and flags
@@ -76,33 +76,33 @@ overflow_way : (r : Regs) → Ways (LeavesSound r) (overflow_plan r)
 unfolding overflow_plan
 overflow_way r = either_way (is_set r.eflags OF) (interrupt_way 4 r) (steadily (follows (stays r)))
 
-push_flags_way : (insn : Insn) (r : Regs) → Ways (Leaves r) (push_flags_plan insn r)
+pub push_flags_way : (insn : Insn) (r : Regs) → Ways (Leaves r) (push_flags_plan insn r)
 unfolding push_flags_plan
 push_flags_way insn r = by_sensitive r (push_then r r _ _ _ (stays r) (λ _ h. follows h))
 
-pop_flags_way : (insn : Insn) (r : Regs) → Ways (Leaves r) (pop_flags_plan insn r)
+pub pop_flags_way : (insn : Insn) (r : Regs) → Ways (Leaves r) (pop_flags_plan insn r)
 unfolding pop_flags_plan
 pop_flags_way insn r = by_sensitive r (pop_then r r _ _ (stays r) (λ popped h. follows (image_stays r popped.1 popped.0 B2 h)))
 
-clear_interrupts_way : (r : Regs) → Ways (Leaves r) (clear_interrupts_plan r)
+pub clear_interrupts_way : (r : Regs) → Ways (Leaves r) (clear_interrupts_plan r)
 unfolding clear_interrupts_plan
 clear_interrupts_way r = by_io_rights r (follows (interrupts_stay r false))
 
-set_interrupts_way : (r : Regs) → Ways (Leaves r) (set_interrupts_plan r)
+pub set_interrupts_way : (r : Regs) → Ways (Leaves r) (set_interrupts_plan r)
 unfolding set_interrupts_plan
 set_interrupts_way r = by_io_rights r (passes (interrupts_stay r true, tt))
 
-halt_way : (r : Regs) → Ways (Leaves r) (halt_plan r)
+pub halt_way : (r : Regs) → Ways (Leaves r) (halt_plan r)
 unfolding halt_plan
 halt_way r = at_level_0 r (λ _. passes (stays r, tt))
 
 -- ---- ports
 
-in_way : (insn : Insn) (r : Regs) → Ways (Leaves r) (in_plan insn r)
+pub in_way : (insn : Insn) (r : Regs) → Ways (Leaves r) (in_plan insn r)
 unfolding in_plan
 in_way insn r = port_then r _ _ _ (λ _. record { ends = λ value. (reg_stays r 0 insn.size value, tt) })
 
-out_way : (insn : Insn) (r : Regs) → Ways (Leaves r) (out_plan insn r)
+pub out_way : (insn : Insn) (r : Regs) → Ways (Leaves r) (out_plan insn r)
 unfolding out_plan
 out_way insn r = port_then r _ _ _ (λ _. passes (stays r, tt))
 
@@ -125,19 +125,19 @@ idt_stays : (r : Regs) (limit base : ℕ) → Steady r (record r { idt_limit = l
 idt_stays r limit base = record { cr0 = refl; cr3 = refl; cpl = refl; virtual = refl; flags = λ h. h }
 
 module _ (insn : Insn) (r : Regs) (a : is_memory insn.a ≡ true) where
-  load_gdt_way : Ways (Leaves r) (load_gdt_plan insn r)
+  pub load_gdt_way : Ways (Leaves r) (load_gdt_plan insn r)
   unfolding load_gdt_plan
   load_gdt_way = at_level_0 r (λ _. then_way (reads_table r insn.a a) (λ table _. follows (gdt_stays r table.0 _)))
 
-  load_idt_way : Ways (Leaves r) (load_idt_plan insn r)
+  pub load_idt_way : Ways (Leaves r) (load_idt_plan insn r)
   unfolding load_idt_plan
   load_idt_way = at_level_0 r (λ _. then_way (reads_table r insn.a a) (λ table _. follows (idt_stays r table.0 _)))
 
-  store_gdt_way : Ways (Leaves r) (store_gdt_plan insn r)
+  pub store_gdt_way : Ways (Leaves r) (store_gdt_plan insn r)
   unfolding store_gdt_plan
   store_gdt_way = then_way (writes_table r insn.a _ _ a) (λ _ _. follows (stays r))
 
-  store_idt_way : Ways (Leaves r) (store_idt_plan insn r)
+  pub store_idt_way : Ways (Leaves r) (store_idt_plan insn r)
   unfolding store_idt_plan
   store_idt_way = then_way (writes_table r insn.a _ _ a) (λ _ _. follows (stays r))
 
@@ -171,13 +171,13 @@ sound_tables r value sound = record {
 taken_bit : (n from k : ℕ) → bit (with_bit n k (bit_at from k)) k ≡ bit from k
 taken_bit n from k = ap (λ v. v == 1) (bit_at-with_bit n k (bit_at from k) (bit_at-lt from k))
 
-other_bit : (n from k j : ℕ) → (j == k) ≡ false → bit (with_bit n k (bit_at from k)) j ≡ bit n j
+pub other_bit : (n from k j : ℕ) → (j == k) ≡ false → bit (with_bit n k (bit_at from k)) j ≡ bit n j
 other_bit n from k j e = same_bit n k (bit_at from k) j (bit_at-lt from k) (grind (arith, nat_tests))
 
 moved_protection : (value : ℕ) → bit (with_bits_of value 0 (PE ∷ MP ∷ EM ∷ TS ∷ PG ∷ [])) 0 ≡ bit value 0
 moved_protection value = other_bit _ value PG 0 refl ∙ (other_bit _ value TS 0 refl ∙ (other_bit _ value EM 0 refl ∙ (other_bit _ value MP 0 refl ∙ taken_bit 0 value PE)))
 
-moved_paging : (value : ℕ) → bit (with_bits_of value 0 (PE ∷ MP ∷ EM ∷ TS ∷ PG ∷ [])) 31 ≡ bit value 31
+pub moved_paging : (value : ℕ) → bit (with_bits_of value 0 (PE ∷ MP ∷ EM ∷ TS ∷ PG ∷ [])) 31 ≡ bit value 31
 moved_paging value = taken_bit _ value PG
 
 -- paging without protection was refused
@@ -197,7 +197,7 @@ set_control_way n value r zero = if_false (n == 0 && bit value PG && not (bit va
     ]
   ] refl
 
-debug_stays : (r : Regs) (n value : ℕ) → Steady r (with_debug_register r n value)
+pub debug_stays : (r : Regs) (n value : ℕ) → Steady r (with_debug_register r n value)
 debug_stays r n value = elim (n == 6) as (λ v. Steady r (cond v (record r { dr6 = bit_and value 0xE00F }) (cond (n == 7) (record r { dr7 = bit_and value 0xFFFF03FF }) (record r { dr = slice_set r.dr n value })))) [
   | true ↦ record { cr0 = refl; cr3 = refl; cpl = refl; virtual = refl; flags = λ h. h }
   | false ↦ elim (n == 7) as (λ v. Steady r (cond v (record r { dr7 = bit_and value 0xFFFF03FF }) (record r { dr = slice_set r.dr n value }))) [
@@ -221,12 +221,12 @@ special_move_way insn r e = at_level_0 r (λ zero. special_way insn.a insn.b r e
 
 -- ---- the machine status word and the coprocessor
 
-store_status_word_way : (insn : Insn) (r : Regs) → is_place insn.a ≡ true → Ways (Leaves r) (store_status_word_plan insn r)
+pub store_status_word_way : (insn : Insn) (r : Regs) → is_place insn.a ≡ true → Ways (Leaves r) (store_status_word_plan insn r)
 unfolding store_status_word_plan
 store_status_word_way insn r a = stores_word insn r _ a
 
 -- protection stays or begins, and paging stays
-loaded_paging : (n word : ℕ) → bit (with_bits_of word n (MP ∷ EM ∷ TS ∷ [])) 31 ≡ bit n 31
+pub loaded_paging : (n word : ℕ) → bit (with_bits_of word n (MP ∷ EM ∷ TS ∷ [])) 31 ≡ bit n 31
 loaded_paging n word = other_bit _ word TS 31 refl ∙ (other_bit _ word EM 31 refl ∙ other_bit n word MP 31 refl)
 
 loaded_protection : (n word : ℕ) → bit (with_bits_of word n (MP ∷ EM ∷ TS ∷ [])) 0 ≡ bit n 0
@@ -252,11 +252,11 @@ clear_task_switched_way r = at_level_0 r (λ zero. record {
   );
 })
 
-wait_way : (r : Regs) → Ways (Leaves r) (wait_plan r)
+pub wait_way : (r : Regs) → Ways (Leaves r) (wait_plan r)
 unfolding wait_plan
 wait_way r = either_way _ (fails (omega arith)) (follows (stays r))
 
-escape_way : (r : Regs) → Ways (Leaves r) (escape_plan r)
+pub escape_way : (r : Regs) → Ways (Leaves r) (escape_plan r)
 unfolding escape_plan
 escape_way r = either_way _ (fails (omega arith)) (follows (stays r))
 
@@ -286,14 +286,14 @@ system_way ops.Esc insn r f e = steadily (escape_way r)
 system_way ops.Mov insn r f e = special_move_way insn r e
 system_way _ insn r f e = absurd cc
 
-without : (a b c : Bool) → (a || b || c) ≡ true → b ≡ false → (a || c) ≡ true
+pub without : (a b c : Bool) → (a || b || c) ≡ true → b ≡ false → (a || c) ≡ true
 without true b c e h = refl
 without false true c e h = absurd cc
 without false false c e h = e
 
 -- ---- those of protected mode
 
-by_mode : (op : Op) (insn : Insn) (r : Regs) → is_protected_only op ≡ true → system_by op insn r ≡ protected_plan op insn r
+pub by_mode : (op : Op) (insn : Insn) (r : Regs) → is_protected_only op ≡ true → system_by op insn r ≡ protected_plan op insn r
 by_mode ops.Arpl insn r e = refl
 by_mode ops.Lar insn r e = refl
 by_mode ops.Lsl insn r e = refl

@@ -1,12 +1,16 @@
 -- What the ways through the plan of an instruction have in common.
-use Rattle.std.specs.Prelude.{◌≡◌, ◌≢◌, ⊤}
+use Rattle.std.specs.Prelude.{◌≡◌, ◌≢◌, ⊤, ◌==◌, Bool, true, false}
 use Rattle.mdl_state.specs.declared.Regs.{Regs}
 use Rattle.mdl_state.specs.declared.Fault.{Fault}
 use Rattle.mdl_state.specs.declared.Next.{Next}
 use Rattle.mdl_state.specs.declared.Next.TheVariants.{Soft, Task}
 use Rattle.mdl_state.specs.Attempt.{Plan}
 use Rattle.mdl_state.specs.Ends.{Ends}
-use Rattle.mdl_cpu.specs.Steady.{IsSound, Steady, StaysSound}
+use Rattle.mdl_insn.specs.declared.instruction.Operand.{Operand}
+use Rattle.mdl_insn.specs.declared.instruction.Operand.TheVariants.{Creg}
+use Rattle.mdl_insn.specs.declared.mnemonics.Op.{Op}
+use Rattle.mdl_insn.specs.declared.mnemonics.Op.TheVariants as ops
+use Rattle.mdl_cpu.specs.Steady.{IsSound, Steady, StaysSound, has_paging}
 use Rattle.mdl_cpu.specs.Transfers.{IfSwitch}
 use Rattle.mdl_effect.specs.Operands.{After, IsOrdinary}
 use Rattle.mdl_effect.specs.FarEffects.{FarTransfer}
@@ -47,3 +51,14 @@ pub record LeavesFar (r : Regs) (f : FarTransfer) : Type 0 where
 -- the same of a far transfer
 abbrev pub IsFarComplete : Regs → Plan FarTransfer → Type 0
 IsFarComplete r plan = Ends (LeavesFar r) IsDefined plan
+
+-- PG and CR3 as they were; or, where they are loaded, the other of both
+abbrev pub PagesBy : Bool → Bool → Regs → Regs → Type 0
+PagesBy true tables old new = new.cr3 ≡ old.cr3
+PagesBy false true old new = has_paging new ≡ has_paging old
+PagesBy false false old new = (has_paging new ≡ has_paging old) × (new.cr3 ≡ old.cr3)
+
+-- only a MOV to CR0 loads PG, and one to CR3 the tables
+abbrev pub PagesAs : Op → Operand → Regs → Regs → Type 0
+PagesAs ops.Mov (Creg number) old new = PagesBy (number == 0) (number == 3) old new
+PagesAs _ _ old new = PagesBy false false old new
