@@ -1,4 +1,6 @@
 pub mod Unpaged
 pub mod EffectLaws
+pub mod TaskLaws
+pub mod WholeLaws
 pub mod StepLaws
 pub mod TurnLaws

@@ -1,19 +1,19 @@
 -- What a rule serves in a step is served by a list of items.
-use Rattle.std.proofs.Common.{◌≡◌, ℕ, ◌+◌, List, [], ◌∷◌, ◌++◌, length, refl, sym, ap, subst, ◌∙◌, append_assoc, inl, inr}
+use Rattle.std.proofs.Common.{◌≡◌, ℕ, ◌+◌, List, [], ◌∷◌, ◌++◌, length, sym, ap, ◌∙◌, append_assoc, inl, inr}
 use Rattle.mdl_state.specs.declared.Regs.{Regs}
 use Rattle.mdl_state.specs.declared.Access.{Access}
 use Rattle.mdl_state.specs.declared.Fault.{Fault}
 use Rattle.mdl_state.specs.State.{Mem, Item, Core}
 use Rattle.mdl_state.specs.Watches.{watching}
 use Rattle.mdl_state.specs.Serving.{Pick, Policy, Outcome, Passed, Failed, by_pick, by_list, with_items}
-use Rattle.mdl_state.specs.Choices.{Meets, Follows, page_follows, tried_follows, attempt_follows, walks_after, walks_after-append}
+use Rattle.mdl_state.specs.Choices.{Meets, Follows, page_follows, tried_follows, walks_after, walks_after-append}
 use Rattle.mdl_state.specs.Attempt.{Plan, tried}
 use Rattle.mdl_cpu.specs.Faults.{undefined_opcode, general_protection}
 use Rattle.mdl_cpu.specs.Breakpoints.{data_breakpoints}
 use Rattle.mdl_insn.specs.declared.instruction.Insn.{Insn}
-use Rattle.mdl_step.specs.Effects.{effect}
-use Rattle.mdl_step.specs.Fetching.{Code, Instruction, Refused, Fetches, Takes, Refuses, IsUndefined, IsTooLong, IsCut, fetch_plan, fetched_from}
+use Rattle.mdl_step.specs.Fetching.{Code, Instruction, Refused, Fetches, IsUndefined, IsTooLong, IsCut, fetch_plan, fetched_from}
 use Rattle.mdl_step.specs.Step.{attempted}
+use Rattle.mdl_step.proofs.WholeLaws.{whole_follows}
 
 module _ (pick : Pick) (policy : Policy) (meets : Meets pick policy) where
   page : (m : Mem) (lin : ℕ) (access : Access) → Follows m (by_pick pick m lin access) (λ n. by_list policy n lin access)
@@ -25,7 +25,7 @@ module _ (pick : Pick) (policy : Policy) (meets : Meets pick policy) where
   -- an attempt at an instruction
   pub attempted_follows : (core : Core) (insn : Insn) (back given free : ℕ) (m : Mem) → Follows m (attempted (by_pick pick) core insn back given free m) (λ n. attempted (by_list policy) core insn back given free n)
   attempted_follows core insn back given free m =
-      let t = attempt_follows pick (by_list policy) page given (effect insn core.regs back free) (watching m (data_breakpoints core.regs) 0) in
+      let t = whole_follows pick policy meets insn core.regs back given free (watching m (data_breakpoints core.regs) 0) in
       record { items = t.items; same = t.same; walks = t.walks }
 
   -- a plan of which it is known what it comes to

@@ -1,5 +1,5 @@
 -- What a rule serves in a delivery, and behind the fetch of an instruction, is served by a list of items.
-use Rattle.std.proofs.Common.{◌≡◌, ℕ, zero, suc, ◌==◌, Bool, true, false, List, [], ◌++◌, refl, sym, ap, subst, ◌∙◌, append_assoc, Option, Some, None}
+use Rattle.std.proofs.Common.{◌≡◌, ℕ, ◌==◌, Bool, true, false, List, ◌++◌, refl, sym, ap, subst, ◌∙◌, append_assoc}
 use Rattle.std.specs.Prelude.{if◌then◌else◌}
 use Rattle.std.specs.FinMap.{empty}
 use Rattle.mdl_state.specs.declared.Regs.{Regs}
@@ -9,16 +9,14 @@ use Rattle.mdl_state.specs.declared.Next.TheVariants as next
 use Rattle.mdl_state.specs.State.{Mem, Item, Core}
 use Rattle.mdl_state.specs.Machine.{Rules}
 use Rattle.mdl_state.specs.Watches.{unwatched}
-use Rattle.mdl_state.specs.Serving.{Pick, Policy, Outcome, Passed, Failed, NoStep, handled, by_pick, by_list, with_items}
-use Rattle.mdl_state.specs.Accesses.{committed, discarded}
-use Rattle.mdl_state.specs.Attempt.{Plan, tried, finished}
-use Rattle.mdl_state.specs.Choices.{Meets, Follows, page_follows, tried_follows, stays_follow, on_follows, handled_follows, walks_after, walks_after-append}
+use Rattle.mdl_state.specs.Serving.{Pick, Policy, Outcome, Passed, Failed, NoStep, by_pick, by_list, with_items}
+use Rattle.mdl_state.specs.Choices.{Meets, Follows, stays_follow, on_follows, walks_after, walks_after-append}
 use Rattle.mdl_cpu.specs.declared.Cause.{Cause}
 use Rattle.mdl_cpu.specs.Steady.{has_paging}
 use Rattle.mdl_cpu.specs.Causes.{fault_cause, soft_cause, with_address}
-use Rattle.mdl_cpu.specs.Gates.{gate_plan, with_ext}
-use Rattle.mdl_cpu.specs.DoubleFault.{combine}
-use Rattle.mdl_cpu.specs.Delivery.{Arrival, running, shut_down, delivered_once, followed_by, deliveries, deliver}
+use Rattle.mdl_cpu.specs.Switch.{Left}
+use Rattle.mdl_cpu.specs.TaskDeliveries.{deliver_by_gate}
+use Rattle.mdl_cpu.proofs.ChoiceLaws.{deliver_by_gate_follows}
 use Rattle.mdl_insn.specs.declared.instruction.Insn.{Insn}
 use Rattle.mdl_insn.specs.declared.instruction.Operand.{Operand}
 use Rattle.mdl_insn.specs.declared.instruction.Operand.TheVariants.{Creg}
@@ -27,48 +25,25 @@ use Rattle.mdl_insn.specs.declared.mnemonics.Op.TheVariants as ops
 use Rattle.mdl_effect.specs.Operands.{After}
 use Rattle.mdl_step.specs.Fetching.{Code, Instruction, Refused}
 use Rattle.mdl_step.specs.Delivering.{arrived, delivered}
-use Rattle.mdl_step.specs.Step.{behind, completed, passed_by, faulted, with_control, remapped, attempted, executed, MovesBoard, Comes}
+use Rattle.mdl_step.specs.Step.{behind, completed, passed_by, faulted, with_control, remapped, attempted, ended, executed, MovesBoard, Comes}
 use Rattle.mdl_step.proofs.StepLaws.{attempted_follows}
 
--- ---- what a part of a step does beside the items
+-- ---- a part behind a part
 
-finished_follows : {A : Type 0} (old : Mem) (r : Outcome A × Mem) (f : Mem → Outcome A × Mem) → Follows old r f → Follows old (finished r) (λ n. finished (f n))
-unfolding committed discarded
-finished_follows old (Passed x, m) f p = record { items = p.items; same = λ rest. ap finished (p.same rest); walks = p.walks }
-finished_follows old (Failed fault, m) f p = record { items = p.items; same = λ rest. ap finished (p.same rest); walks = p.walks }
-finished_follows old (NoStep, m) f p = record { items = p.items; same = λ rest. ap finished (p.same rest); walks = p.walks }
-
-ext_follows : {A : Type 0} (external : Bool) (old : Mem) (r : Outcome A × Mem) (f : Mem → Outcome A × Mem) → Follows old r f → Follows old (with_ext external r) (λ n. with_ext external (f n))
-ext_follows external old (Passed x, m) f p = record { items = p.items; same = λ rest. ap (λ w. with_ext external w) (p.same rest); walks = p.walks }
-ext_follows external old (Failed fault, m) f p = record { items = p.items; same = λ rest. ap (λ w. with_ext external w) (p.same rest); walks = p.walks }
-ext_follows external old (NoStep, m) f p = record { items = p.items; same = λ rest. ap (λ w. with_ext external w) (p.same rest); walks = p.walks }
-
--- what is handled, with these items, begins with what its first part comes to
-record Handles {A B : Type 0} (old : Mem) (r : Outcome A × Mem) (w : Outcome B × Mem) (f : Mem → Outcome A × Mem) (h : Mem → Outcome B × Mem) : Type 0 where
+-- what comes of the second part, with these items, begins with what comes of the first
+record Handles {A B : Type 0} (old : Mem) (r : A × Mem) (w : B × Mem) (f : Mem → A × Mem) (h : Mem → B × Mem) : Type 0 where
   items : List Item
   front : (rest : List Item) → (f (with_items old (items ++ rest))).0 ≡ r.0
   same : (rest : List Item) → h (with_items old (items ++ rest)) ≡ (w.0, with_items w.1 rest)
   walks : w.1.walks ≡ walks_after items old.walks
 
-handles : {A B : Type 0} (old : Mem) (r : Outcome A × Mem) (k : A → Mem → Outcome B × Mem) (h : Fault → Mem → Outcome B × Mem) (f : Mem → Outcome A × Mem) (l : A → Mem → Outcome B × Mem) (g : Fault → Mem → Outcome B × Mem)
-    → Follows old r f → ((x : A) (n : Mem) → Follows n (k x n) (l x)) → ((e : Fault) (n : Mem) → Follows n (h e n) (g e)) → Handles old r (handled r k h) f (λ n. handled (f n) l g)
-handles old (Passed x, m) k h f l g p q s = let t = q x m in record {
+handles : {A B : Type 0} (old : Mem) (r : A × Mem) (f : Mem → A × Mem) (k l : A → Mem → B × Mem) → Follows old r f → ((x : A) (n : Mem) → Follows n (k x n) (l x))
+    → Handles old r (k r.0 r.1) f (λ n. l (f n).0 (f n).1)
+handles old (x, m) f k l p q = let t = q x m in record {
   items = p.items ++ t.items;
   front = λ rest. ap (λ (is : List Item). (f (with_items old is)).0) (append_assoc p.items t.items rest) ∙ ap (λ w. w.0) (p.same (t.items ++ rest));
-  same = λ rest. ap (λ is. handled (f (with_items old is)) l g) (append_assoc p.items t.items rest) ∙ ap (λ w. handled w l g) (p.same (t.items ++ rest)) ∙ t.same rest;
+  same = λ rest. ap (λ is. l (f (with_items old is)).0 (f (with_items old is)).1) (append_assoc p.items t.items rest) ∙ ap (λ w. l w.0 w.1) (p.same (t.items ++ rest)) ∙ t.same rest;
   walks = t.walks ∙ ap (walks_after t.items) p.walks ∙ sym (walks_after-append p.items t.items old.walks);
-}
-handles old (Failed e, m) k h f l g p q s = let t = s e m in record {
-  items = p.items ++ t.items;
-  front = λ rest. ap (λ (is : List Item). (f (with_items old is)).0) (append_assoc p.items t.items rest) ∙ ap (λ w. w.0) (p.same (t.items ++ rest));
-  same = λ rest. ap (λ is. handled (f (with_items old is)) l g) (append_assoc p.items t.items rest) ∙ ap (λ w. handled w l g) (p.same (t.items ++ rest)) ∙ t.same rest;
-  walks = t.walks ∙ ap (walks_after t.items) p.walks ∙ sym (walks_after-append p.items t.items old.walks);
-}
-handles old (NoStep, m) k h f l g p q s = record {
-  items = p.items;
-  front = λ rest. ap (λ w. w.0) (p.same rest);
-  same = λ rest. ap (λ w. handled w l g) (p.same rest);
-  walks = p.walks;
 }
 
 -- ---- memory that is remapped
@@ -101,28 +76,9 @@ remapped_walks _ _ r m = refl
 module _ (pick : Pick) (policy : Policy) (meets : Meets pick policy) where
   -- ---- deliveries
 
-  once_follows : (cause : Cause) (r : Regs) (m : Mem) → Follows m (delivered_once (by_pick pick) cause r m) (λ n. delivered_once (by_list policy) cause r n)
-  unfolding delivered_once
-  once_follows cause r m = finished_follows m (with_ext cause.ext (tried (by_pick pick) 0 (gate_plan cause r) m)) (λ n. with_ext cause.ext (tried (by_list policy) 0 (gate_plan cause r) n))
-      (ext_follows cause.ext m (tried (by_pick pick) 0 (gate_plan cause r) m) (λ n. tried (by_list policy) 0 (gate_plan cause r) n)
-      (tried_follows pick (by_list policy) (page_follows pick policy meets) 0 (gate_plan cause r) m))
-
-  followed_follows : (fault : Option Fault) (r : Regs) (m : Mem) (k l : Cause → Regs → Mem → Outcome Arrival × Mem)
-      → ((cause : Cause) (q : Regs) (n : Mem) → Follows n (k cause q n) (λ i. l cause q i)) → Follows m (followed_by fault r m k) (λ n. followed_by fault r n l)
-  followed_follows None r m k l p = stays_follow m (Passed (shut_down r))
-  followed_follows (Some fault) r m k l p = p (fault_cause r fault) (with_address r fault) m
-
-  deliveries_follow : (more : ℕ) (cause : Cause) (r : Regs) (m : Mem) → Follows m (deliveries more (by_pick pick) cause r m) (λ n. deliveries more (by_list policy) cause r n)
-  unfolding deliveries
-  deliveries_follow zero cause r m = stays_follow m NoStep
-  deliveries_follow (suc more) cause r m = handled_follows m (delivered_once (by_pick pick) cause r m) _ _ (λ n. delivered_once (by_list policy) cause r n) _ _ (once_follows cause r m)
-      (λ q n. stays_follow n (Passed (running q)))
-      (λ fault n. followed_follows (combine cause fault) r n (deliveries more (by_pick pick)) (deliveries more (by_list policy)) (λ c q i. deliveries_follow more c q i))
-
   pub delivered_follows : (cause : Cause) (core : Core) (m : Mem) → Follows m (delivered (by_pick pick) cause core m) (λ n. delivered (by_list policy) cause core n)
-  unfolding deliver
-  delivered_follows cause core m = on_follows m (deliver (by_pick pick) cause core.regs m) _ (λ n. deliver (by_list policy) cause core.regs n) _ (deliveries_follow 4 cause core.regs m)
-      (λ arrival n. stays_follow n (Passed (arrived core arrival)))
+  delivered_follows cause core m = on_follows m (deliver_by_gate (by_pick pick) cause core.regs m) _ (λ n. deliver_by_gate (by_list policy) cause core.regs n) _
+      (deliver_by_gate_follows pick policy meets cause core.regs m) (λ arrival n. stays_follow n (Passed (arrived core arrival)))
 
   -- ---- behind the fetch
 
@@ -149,10 +105,18 @@ module _ (pick : Pick) (policy : Policy) (meets : Meets pick policy) where
   back_follows : (core : Core) (fault : Fault) (m : Mem) → Follows m (faulted (by_pick pick) core fault (unwatched m)) (λ n. faulted (by_list policy) core fault (unwatched n))
   back_follows core fault m = let t = faulted_follows core fault (unwatched m) in record { items = t.items; same = λ rest. t.same rest; walks = t.walks }
 
+  -- what comes of it, with the registers of the task that it is in then
+  ended_follows : (core : Core) (insn : Insn) (back : ℕ) (o : Outcome After) (r : Regs) (m : Mem)
+      → Follows m (ended o (by_pick pick) core insn back r m) (λ n. ended o (by_list policy) core insn back r n)
+  ended_follows core insn back (Passed after) r m = onward_follows core insn back after m
+  ended_follows core insn back (Failed fault) r m = back_follows (record core { regs = r }) fault m
+  ended_follows core insn back NoStep r m = stays_follow m NoStep
+
   executes : (core : Core) (insn : Insn) (back given free : ℕ) (m : Mem)
       → Handles m (attempted (by_pick pick) core insn back given free m) (executed (by_pick pick) core insn back given free m) (λ n. attempted (by_list policy) core insn back given free n) (λ n. executed (by_list policy) core insn back given free n)
-  executes core insn back given free m = handles m (attempted (by_pick pick) core insn back given free m) _ _ (λ n. attempted (by_list policy) core insn back given free n) _ _
-      (attempted_follows pick policy meets core insn back given free m) (λ left n. onward_follows core insn back left n) (λ fault n. back_follows core fault n)
+  executes core insn back given free m = handles m (attempted (by_pick pick) core insn back given free m) (λ n. attempted (by_list policy) core insn back given free n)
+      (λ x n. ended x.outcome (by_pick pick) core insn back x.regs n) (λ x n. ended x.outcome (by_list policy) core insn back x.regs n)
+      (attempted_follows pick policy meets core insn back given free m) (λ x n. ended_follows core insn back x.outcome x.regs n)
 
   -- What code comes to: these items serve it, whatever others are behind them.
   pub record ComesBy {B : Type 0} (rules : Rules B) (core : Core) (code : Code) (free : ℕ) (m : Mem) (old : B) (w : Outcome Core × Mem) (new : B) : Type 0 where
@@ -169,7 +133,7 @@ module _ (pick : Pick) (policy : Policy) (meets : Meets pick policy) where
         items = t.items;
         comes = λ rest. (
           given,
-          subst (λ (o : Outcome After). MovesBoard rules o given old new) (sym (t.front rest)) c.1,
+          subst (λ (o : Left After). MovesBoard rules o.outcome given old new) (sym (t.front rest)) c.1,
           t.same rest ∙ ap (λ (v : Outcome Core × Mem). (v.0, with_items v.1 rest)) c.2,
         );
         walks = ap (λ (v : Outcome Core × Mem). v.1.walks) (sym c.2) ∙ t.walks;
