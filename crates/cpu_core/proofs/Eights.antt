@@ -1,5 +1,5 @@
 -- Eight bytes of code that are at hand are those that are fetched.
-use Rattle.std.proofs.Common.{◌≡◌, ◌<◌, ◌≤◌, ℕ, zero, suc, ◌+◌, ◌/◌, ◌%◌, ◌^◌, Bool, true, false, List, [], ◌∷◌, length, refl, sym, ap, subst, ◌∙◌, arith, inl, inr, Result, Ok, Option, Some, None}
+use Rattle.std.proofs.Common.{◌≡◌, ◌<◌, ◌≤◌, ℕ, zero, suc, ◌+◌, ◌/◌, ◌%◌, ◌^◌, Bool, true, List, [], ◌∷◌, length, refl, sym, ap, subst, ◌∙◌, arith, inl, inr, Option, Some, None}
 use Rattle.std.specs.Prelude.{nat_le, IfSome}
 use Rattle.std.proofs.lemmas.Bool.Decides.{leb_tells}
 use Rattle.std.proofs.lemmas.Grind.{pow_more}
@@ -8,7 +8,6 @@ use Rattle.mdl_state.specs.declared.Seg.TheVariants.{Cs}
 use Rattle.mdl_state.specs.declared.Size.TheVariants.{B1}
 use Rattle.mdl_state.specs.declared.Regs.{Regs}
 use Rattle.mdl_state.specs.declared.Who.{Who}
-use Rattle.mdl_state.specs.declared.Fault.{Fault}
 use Rattle.mdl_state.specs.State.{Mem}
 use Rattle.mdl_state.specs.Registers.{seg_of}
 use Rattle.mdl_state.specs.Bytes.{little_bytes}
@@ -16,7 +15,7 @@ use Rattle.mdl_state.specs.Accesses.{read_at}
 use Rattle.mdl_state.specs.Serving.{Outcome, Pick, Passed, by_pick, on}
 use Rattle.mdl_state.specs.Attempt.{Plan, Done, tried}
 use Rattle.mdl_state.specs.AttemptLaws.{tried-then_plan}
-use Rattle.mdl_cpu.specs.Segments.{who_of, has_protection}
+use Rattle.mdl_cpu.specs.Segments.{who_of}
 use Rattle.mdl_insn.specs.declared.instruction.Insn.{Insn}
 use Rattle.mdl_insn.specs.Spelling.{Spelt}
 use Rattle.mdl_step.specs.Fetching.{fetched_from, fetch_plan, is_wide, Instruction, Fetches}
@@ -24,7 +23,7 @@ use Rattle.insn_decode.specs.Decoded.{Came, Takes}
 use Rattle.operands.specs.Whole.{whole}
 use Rattle.cpu_core.specs.Window.{HasEight, Spells, gives_low}
 use Rattle.cpu_core.proofs.Windows.{one_of, others, more_fetched}
-use Rattle.cpu_core.proofs.Fetched.{narrow}
+use Rattle.cpu_core.proofs.Fetched.{whole_wide}
 
 -- ---- what the decoder takes
 
@@ -37,10 +36,10 @@ came_little low s (b ∷ bytes) e came =
     ap (λ (x : ℕ). x ∷ bytes) first ∙ ap (λ (xs : List ℕ). low s % 256 ∷ xs) (came_little low mid bytes e came.2 ∙ ap (little_bytes (length bytes)) came.1.1)
 
 -- so they spell what was taken
-pub takes_spells : {S : Type 0} (low : S → ℕ) (s e : S) (word count : ℕ) (insn : Insn) → low s ≡ word → count ≤ 8 → Takes (λ s r t. gives_low (low s) r (low t)) false s insn count e → Spells word insn count
-takes_spells low s e word count insn is few takes = record {
+pub takes_spells : {S : Type 0} (low : S → ℕ) (big : Bool) (s e : S) (word count : ℕ) (insn : Insn) → low s ≡ word → count ≤ 8 → Takes (λ s r t. gives_low (low s) r (low t)) big s insn count e → Spells word big insn count
+takes_spells low big s e word count insn is few takes = record {
   within = few;
-  spelt = subst (λ (bytes : List ℕ). Spelt bytes false insn)
+  spelt = subst (λ (bytes : List ℕ). Spelt bytes big insn)
       (came_little low s takes.bytes e takes.came ∙ ap (λ (n : ℕ). little_bytes n (low s)) takes.len_is ∙ ap (little_bytes count) is) takes.spelt;
 }
 
@@ -87,18 +86,18 @@ module _ (pick : Pick) (r : Regs) (m : Mem) (word : ℕ) (has : HasEight pick r 
       ∙ ap (λ (w : Outcome (List ℕ) × Mem). on w (λ x n. tried serve 0 (Done (b ∷ x)) n)) (bytes_fetched (k + 1) count (omega (arith, fits)))
       ∙ ap (λ (rest : ℕ). (Passed (b ∷ little_bytes count rest), m)) (sym (div_more word k))
 
-  pub eight_fetched : (insn : Insn) (count : ℕ) → is_wide r ≡ false → Spells word insn count → Fetches (by_pick pick) r m (Instruction insn count) m
+  pub eight_fetched : (insn : Insn) (count : ℕ) (big : Bool) → is_wide r ≡ big → Spells word big insn count → Fetches (by_pick pick) r m (Instruction insn count) m
   unfolding fetch_plan
-  eight_fetched insn count real spells = record {
+  eight_fetched insn count big wide spells = record {
     bytes = little_bytes count word;
     within = omega (arith, spells.within);
     fetched = bytes_fetched 0 count (omega (arith, spells.within)) ∙ ap (λ (n : ℕ). (Passed (little_bytes count n), m)) (omega arith);
-    spelt = subst (λ (big : Bool). Spelt (little_bytes count word) big insn) (sym real) spells.spelt;
+    spelt = subst (λ (b : Bool). Spelt (little_bytes count word) b insn) (sym wide) spells.spelt;
   }
 
 -- so what eight bytes spell is what is fetched
-pub eight_found : (pick : Pick) (r : Regs) (m : Mem) (word : ℕ) (insn : Insn) (found : Option ℕ) → has_protection r ≡ false → HasEight pick r m word → IfSome found (λ count. Spells word insn count)
+pub eight_found : (pick : Pick) (r : Regs) (m : Mem) (word : ℕ) (big : Bool) (insn : Insn) (found : Option ℕ) → is_wide r ≡ big → HasEight pick r m word → IfSome found (λ count. Spells word big insn count)
     → IfSome found (λ count. (flags : ℕ) → Fetches (by_pick pick) (whole r flags) m (Instruction insn count) m)
-eight_found pick r m word insn (Some count) real has spells = λ flags.
-    eight_fetched pick (whole r flags) m word (whole_eight pick r flags m word has) insn count (narrow (whole r flags) real) spells
-eight_found pick r m word insn None real has spells = tt
+eight_found pick r m word big insn (Some count) wide has spells = λ flags.
+    eight_fetched pick (whole r flags) m word (whole_eight pick r flags m word has) insn count big (whole_wide r flags ∙ wide) spells
+eight_found pick r m word big insn None wide has spells = tt

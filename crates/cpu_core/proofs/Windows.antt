@@ -1,25 +1,27 @@
 -- What comes through a window on the code is what is fetched.
-use Rattle.std.proofs.Common.{◌≡◌, ℕ, suc, ◌+◌, ◌%◌, ◌^◌, Bool, true, false, List, [], ◌∷◌, length, refl, sym, ap, subst, ◌∙◌, arith, Result, Ok, Err}
+use Rattle.std.proofs.Common.{◌≡◌, ℕ, suc, ◌+◌, ◌%◌, ◌^◌, Bool, true, false, List, [], ◌∷◌, ◌++◌, length, refl, sym, ap, subst, ◌∙◌, arith, Result, Ok, Err}
 use Rattle.std.specs.Prelude.{nat_le, if◌then◌else◌}
 use Rattle.mdl_state.specs.declared.Size.TheVariants.{B1}
 use Rattle.mdl_state.specs.declared.Seg.TheVariants.{Cs}
 use Rattle.mdl_state.specs.declared.Regs.{Regs}
 use Rattle.mdl_state.specs.declared.Fault.{Fault}
-use Rattle.mdl_state.specs.declared.Watch.{Watch}
-use Rattle.mdl_state.specs.declared.Who.{Who}
-use Rattle.mdl_state.specs.declared.Access.TheVariants.{Read}
-use Rattle.mdl_state.specs.Watches.{hits_after, noted}
+use Rattle.mdl_state.specs.Accesses.{Keeps}
 use Rattle.mdl_state.specs.State.{Mem}
 use Rattle.mdl_state.specs.Registers.{seg_of}
-use Rattle.mdl_state.specs.Serving.{Pick, Serve, Passed, Failed, by_pick, on}
+use Rattle.mdl_state.specs.Serving.{Pick, Outcome, Passed, Failed, by_pick, on}
 use Rattle.mdl_state.specs.Attempt.{Plan, Done, Fail, Load, then_plan, tried}
 use Rattle.mdl_state.specs.AttemptLaws.{tried-then_plan}
 use Rattle.mdl_cpu.specs.Segments.{who_of}
 use Rattle.mdl_cpu.specs.Faults.{general_protection}
 use Rattle.mdl_step.specs.Fetching.{fetched_from}
-use Rattle.mdl_step.proofs.Unpaged.{plain_read}
+use Rattle.mdl_cpu.specs.Deliveries.{KeepsWatch}
+use Rattle.mdl_cpu.proofs.ServingLaws.{tried_keeps, then_kept}
+use Rattle.mdl_insn.specs.declared.instruction.Insn.{Insn}
+use Rattle.insn_decode.specs.declared.refusals.Undecoded.{Undecoded}
+use Rattle.insn_decode.specs.declared.refusals.Undecoded.TheVariants as causes
+use Rattle.insn_decode.specs.Decoded as decoded
 use Rattle.insn_decode.specs.Decoded.{Came}
-use Rattle.cpu_core.specs.Plain.{IsPlain}
+use Rattle.cpu_core.specs.Plain.{IsQuiet}
 use Rattle.cpu_core.specs.Window.{Window, byte_plan, Gives, IsAt}
 
 -- ---- one byte
@@ -93,24 +95,64 @@ pub cut_fetched : (pick : Pick) (r : Regs) (n : ℕ) (w v : Window) (fault : Fau
     → tried (by_pick pick) 0 (fetched_from r n 1) w.mem ≡ (Failed fault, v.mem)
 cut_fetched pick r n w v fault at g = one_and pick r n 0 w at ∙ ap (λ t. on t (λ x m. tried (by_pick pick) 0 (others r n 0 x) m)) (sym g.byte)
 
--- ---- while paging is off and no breakpoint is looked for
+-- ---- what a fetch leaves
 
-noted_none : (m : Mem) (lin : ℕ) (who : Who) → m.watch ≡ [] → noted m lin B1 (Read who) ≡ m
-noted_none m lin who none = ap (λ (ws : List Watch). record m { hits = hits_after ws lin B1 (Read who) m.hits }) none
+-- what stays as bytes are fetched
+pub record Stays (m n : Mem) : Type 0 where
+  pub keeps : Keeps m n
+  pub held : n.held ≡ m.held
+  pub watch : KeepsWatch m n
 
-plain_same : (serve : Serve) (w : Window) → IsPlain w.mem → (tried serve 0 (byte_plan w) w.mem).1 ≡ w.mem
-plain_same serve w plain = by_limit (nat_le w.offset w.limit) refl
-  where
-    by_limit : (v : Bool) → nat_le w.offset w.limit ≡ v → (tried serve 0 (byte_plan w) w.mem).1 ≡ w.mem
-    by_limit true e = rw e (rw (plain_read serve w.mem ((w.base + w.offset) % 2 ^ 32) B1 w.who plain.paging) (noted_none w.mem ((w.base + w.offset) % 2 ^ 32) w.who plain.watch))
-    by_limit false e = rw e refl
+pub keeps_all : (m : Mem) → Keeps m m
+keeps_all m = record { paging = refl; cr3 = refl; physical = record { a20 = refl; rom = refl; ram = refl } }
 
-pub gives_same : (pick : Pick) (w v : Window) (r : Result ℕ Fault) → IsPlain w.mem → Gives pick w r v → v.mem ≡ w.mem
-gives_same pick w v r plain g = ap (λ x. x.1) g.byte ∙ plain_same (by_pick pick) w plain
+stays : (m : Mem) → Stays m m
+stays m = record {
+  keeps = keeps_all m;
+  held = refl;
+  watch = record { served = refl; watch = refl; hits = λ _. refl };
+}
 
--- a fetch leaves memory
-pub came_same : {S : Type 0} (pick : Pick) (window : S → Window) (s : S) (bytes : List ℕ) (e : S) → IsPlain (window s).mem → Came (by_window pick window) s bytes e → (window e).mem ≡ (window s).mem
-came_same pick window s [] e plain came = ap (λ (t : _). (window t).mem) came
-came_same pick window s (b ∷ bytes) e plain came =
-    let same = gives_same pick (window s) (window came.0) (Ok b) plain came.1 in
-    came_same pick window came.0 bytes e (subst IsPlain (sym same) plain) came.2 ∙ same
+then_stays : (l m n : Mem) → Stays l m → Stays m n → Stays l n
+then_stays l m n a b = record {
+  keeps = record {
+    paging = b.keeps.paging ∙ a.keeps.paging;
+    cr3 = b.keeps.cr3 ∙ a.keeps.cr3;
+    physical = record {
+      a20 = b.keeps.physical.a20 ∙ a.keeps.physical.a20;
+      rom = b.keeps.physical.rom ∙ a.keeps.physical.rom;
+      ram = b.keeps.physical.ram ∙ a.keeps.physical.ram;
+    };
+  };
+  held = b.held ∙ a.held;
+  watch = then_kept a.watch b.watch;
+}
+
+-- memory that was quiet is quiet again
+pub stays_quiet : (m n : Mem) → Stays m n → IsQuiet m → IsQuiet n
+stays_quiet m n s q = record {
+  held = s.held ∙ q.held;
+  served = s.watch.served ∙ q.served;
+  watch = s.watch.watch ∙ q.watch;
+  hits = s.watch.hits q.watch ∙ q.hits;
+}
+
+gives_stays : (pick : Pick) (w v : Window) (r : Result ℕ Fault) → Gives pick w r v → Stays w.mem v.mem
+gives_stays pick w v r g = record {
+  keeps = g.keeps;
+  held = g.held;
+  watch = subst (λ (x : Outcome ℕ × Mem). KeepsWatch w.mem x.1) (sym g.byte) (tried_keeps pick 0 (byte_plan w) w.mem);
+}
+
+came_stays : {S : Type 0} (pick : Pick) (window : S → Window) (s : S) (bytes : List ℕ) (e : S) → Came (by_window pick window) s bytes e → Stays (window s).mem (window e).mem
+came_stays pick window s [] e came = subst (λ (t : _). Stays (window s).mem (window t).mem) (sym came) (stays (window s).mem)
+came_stays pick window s (b ∷ bytes) e came = then_stays _ _ _ (gives_stays pick (window s) (window came.0) (Ok b) came.1) (came_stays pick window came.0 bytes e came.2)
+
+module _ {S : Type 0} (pick : Pick) (window : S → Window) (big : Bool) (s e : S) where
+  pub takes_stays : (insn : Insn) (count : ℕ) → decoded.Takes (by_window pick window) big s insn count e → Stays (window s).mem (window e).mem
+  takes_stays insn count t = came_stays pick window s t.bytes e t.came
+
+  pub refuses_stays : (cause : Undecoded) → decoded.Refused (by_window pick window) big s cause e → Stays (window s).mem (window e).mem
+  refuses_stays causes.Undefined u = came_stays pick window s (u.front ++ u.last ∷ []) e u.came
+  refuses_stays causes.TooLong u = came_stays pick window s u.bytes e u.came
+  refuses_stays (causes.Fetch fault) u = then_stays _ _ _ (came_stays pick window s u.bytes u.mid u.came) (gives_stays pick (window u.mid) (window e) _ u.fails)

@@ -1,5 +1,5 @@
 -- Code as it is fetched from memory, one byte after the other. Manual, chapter 6.
-use Rattle.std.specs.Prelude.{◌≡◌, ◌<◌, ◌≤◌, ℕ, ◌+◌, ◌/◌, ◌%◌, ◌^◌, nat_le, false, if◌then◌else◌, Result, Ok, OnOk}
+use Rattle.std.specs.Prelude.{◌≡◌, ◌<◌, ◌≤◌, ℕ, ◌+◌, ◌/◌, ◌%◌, ◌^◌, nat_le, Bool, if◌then◌else◌, Result, Ok, OnOk}
 use Rattle.mdl_state.specs.declared.Size.TheVariants.{B1}
 use Rattle.mdl_state.specs.declared.Seg.TheVariants.{Cs}
 use Rattle.mdl_state.specs.declared.Regs.{Regs}
@@ -8,7 +8,7 @@ use Rattle.mdl_state.specs.declared.Fault.{Fault}
 use Rattle.mdl_state.specs.State.{Mem}
 use Rattle.mdl_state.specs.Registers.{seg_of}
 use Rattle.mdl_state.specs.Bytes.{little_bytes}
-use Rattle.mdl_state.specs.Accesses.{read_at}
+use Rattle.mdl_state.specs.Accesses.{Keeps, read_at}
 use Rattle.mdl_state.specs.Serving.{Pick, Passed, by_pick, outcome}
 use Rattle.mdl_state.specs.Attempt.{Plan, Done, Fail, Load, tried}
 use Rattle.mdl_insn.specs.declared.instruction.Insn.{Insn}
@@ -30,13 +30,15 @@ pub record Window : Type 0 where
 abbrev pub byte_plan : Window → Plan ℕ
 byte_plan w = if nat_le w.offset w.limit then Load ((w.base + w.offset) % 2 ^ 32) B1 w.who (λ byte. Done byte) else Fail (general_protection 0)
 
--- one byte is fetched, and the window then is at the next
+-- One byte is fetched, and the window then is at the next. What no access changes stays, and nothing is held by it.
 pub record Gives (pick : Pick) (w : Window) (r : Result ℕ Fault) (v : Window) : Type 0 where
   pub byte : (outcome r, v.mem) ≡ tried (by_pick pick) 0 (byte_plan w) w.mem
   pub base : v.base ≡ w.base
   pub limit : v.limit ≡ w.limit
   pub who : v.who ≡ w.who
   pub next : OnOk r (v.offset ≡ w.offset + 1)
+  pub keeps : Keeps w.mem v.mem
+  pub held : v.mem.held ≡ w.mem.held
 
 -- the window is at byte n of the code at CS:EIP
 pub record IsAt (r : Regs) (n : ℕ) (w : Window) : Type 0 where
@@ -62,7 +64,7 @@ pub record HasEight (pick : Pick) (r : Regs) (m : Mem) (word : ℕ) : Type 0 whe
   pub within : r.eip + 7 ≤ (seg_of r Cs).limit
   pub bytes : (i : ℕ) → i < 8 → (Passed (word / 256 ^ i % 256), m) ≡ read_at (by_pick pick) m (((seg_of r Cs).base + (r.eip + i)) % 2 ^ 32) B1 (who_of r)
 
--- so many bytes of a number, at most eight, spell the instruction in code of 16 bits
-pub record Spells (word : ℕ) (insn : Insn) (count : ℕ) : Type 0 where
+-- so many bytes of a number, at most eight, spell the instruction, in code of 32 bits or of 16
+pub record Spells (word : ℕ) (big : Bool) (insn : Insn) (count : ℕ) : Type 0 where
   pub within : count ≤ 8
-  pub spelt : Spelt (little_bytes count word) false insn
+  pub spelt : Spelt (little_bytes count word) big insn

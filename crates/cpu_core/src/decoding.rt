@@ -1,19 +1,20 @@
 //! The instruction at CS:EIP.
 
-ghost use Rattle.std.specs.Prelude.{◌≡◌, ℕ, false, IfOk, IfErr, IfSome};
+ghost use Rattle.std.specs.Prelude.{◌≡◌, ℕ, true, false, IfOk, IfErr, IfSome};
+ghost use Rattle.mdl_state.specs.Accesses.{Keeps};
 ghost use Rattle.mdl_state.specs.Serving.{by_pick};
-ghost use Rattle.mdl_cpu.specs.Segments.{has_protection};
-ghost use Rattle.mdl_step.specs.Fetching.{Instruction, Refused, Fetches};
+ghost use Rattle.mdl_step.specs.Fetching.{Instruction, Refused, Fetches, is_wide};
 ghost use Rattle.operands.specs.Whole.{whole};
-ghost use Rattle.cpu_core.specs.Plain.{IsPlain};
+ghost use Rattle.cpu_core.specs.Plain.{IsQuiet};
 ghost use Rattle.cpu_core.specs.Window.{Spells, fault_of};
 
 use crate::code::{Code, Eight};
 use insn_decode::{Undecoded, decode_into};
 use mdl_insn::Insn;
-use mdl_state::{Fault, Regs};
+use mdl_state::{Fault, Regs, Seg};
 use mem_iface::Linear;
 use operands::{general_protection, no_such};
+use seg_unit::{is_big, is_protected, segment};
 
 /// The fault of code that is no instruction.
 fn fault_of(cause: Undecoded) -> Fault
@@ -26,27 +27,57 @@ fn fault_of(cause: Undecoded) -> Fault
     }
 }
 
+/// The code has 32 bits unless a prefix says otherwise.
+#[inline(always)]
+#[tactic(auto, unfolding(mdl_state::specs::Registers::seg_of))]
+fn is_wide(regs: &Regs) -> bool
+    ensures { result ≡ is_wide regs.now }
+{
+    is_protected(regs) && is_big(&segment(regs, Seg::Cs))
+}
+
 /// The instruction at the front of eight bytes, where it has no more. The answer is its length.
-#[inline(never)]
-fn decode_eight(bytes: u64, insn: &mut Insn) -> Option<u8>
-    ensures { IfSome result (λ count. Spells bytes insn.new count) }
+#[inline(always)]
+fn decode_eight(bytes: u64, big: bool, insn: &mut Insn) -> Option<u8>
+    ensures { IfSome result (λ count. Spells bytes big insn.new count) }
 {
     let mut eight = Eight::new(bytes);
-    match decode_into(&mut eight, false, insn) {
+    match decode_into(&mut eight, big, insn) {
         Ok(count) if count <= 8 => Some(count),
         _ => None,
     }
 }
 
+/// That of code of 16 bits.
+#[inline(never)]
+fn decode_narrow(bytes: u64, insn: &mut Insn) -> Option<u8>
+    ensures { IfSome result (λ count. Spells bytes false insn.new count) }
+{
+    decode_eight(bytes, false, insn)
+}
+
+/// That of code of 32 bits.
+#[inline(never)]
+fn decode_wide(bytes: u64, insn: &mut Insn) -> Option<u8>
+    ensures { IfSome result (λ count. Spells bytes true insn.new count) }
+{
+    decode_eight(bytes, true, insn)
+}
+
 /// The instruction at CS:EIP, where it is among eight bytes that memory has at hand.
 #[inline(always)]
 fn decode_near<L: Linear>(code: &Code<L>, regs: &Regs, insn: &mut Insn) -> Option<u8>
-    requires mode { has_protection regs.now ≡ false }
     ensures { IfSome result (λ count. (flags : ℕ) →
         Fetches (by_pick L.pick) (whole regs.now flags) (L.seen code.now.lin) (Instruction insn.new count) (L.seen code.now.lin)) }
 {
     match code.near(regs) {
-        Some(bytes) => decode_eight(bytes, insn),
+        Some(bytes) => {
+            if is_wide(regs) {
+                decode_wide(bytes, insn)
+            } else {
+                decode_narrow(bytes, insn)
+            }
+        }
         None => None,
     }
 }
@@ -54,16 +85,16 @@ fn decode_near<L: Linear>(code: &Code<L>, regs: &Regs, insn: &mut Insn) -> Optio
 /// The instruction at CS:EIP, fetched byte by byte.
 #[inline(never)]
 fn decode_far<L: Linear>(code: &mut Code<L>, regs: &Regs, insn: &mut Insn) -> Result<u8, Fault>
-    requires mode { has_protection regs.now ≡ false }
-    requires plain { IsPlain (L.seen code.old.lin) }
+    requires quiet { IsQuiet (L.seen code.old.lin) }
     ensures found { IfOk result (λ count. (flags : ℕ) →
         Fetches (by_pick L.pick) (whole regs.now flags) (L.seen code.old.lin) (Instruction insn.new count) (L.seen code.new.lin)) }
     ensures refused { IfErr result (λ fault. (flags : ℕ) →
         Fetches (by_pick L.pick) (whole regs.now flags) (L.seen code.old.lin) (Refused fault) (L.seen code.new.lin)) }
-    ensures memory { L.seen code.new.lin ≡ L.seen code.old.lin }
+    ensures keeps { Keeps (L.seen code.old.lin) (L.seen code.new.lin) }
+    ensures quiet { IsQuiet (L.seen code.new.lin) }
 {
     code.start(regs);
-    match decode_into(code, false, insn) {
+    match decode_into(code, is_wide(regs), insn) {
         Ok(count) => Ok(count),
         Err(cause) => Err(fault_of(cause)),
     }
@@ -72,18 +103,19 @@ fn decode_far<L: Linear>(code: &mut Code<L>, regs: &Regs, insn: &mut Insn) -> Re
 /// The instruction at CS:EIP is fetched and put into `insn`. The answer is its length, or the fault of
 /// what is no instruction.
 #[inline(always)]
+#[tactic(auto, using(crate::proofs::Windows::keeps_all))]
 pub(crate) fn decode<L: Linear>(
     code: &mut Code<L>,
     regs: &Regs,
     insn: &mut Insn,
 ) -> Result<u8, Fault>
-    requires mode { has_protection regs.now ≡ false }
-    requires plain { IsPlain (L.seen code.old.lin) }
+    requires quiet { IsQuiet (L.seen code.old.lin) }
     ensures found { IfOk result (λ count. (flags : ℕ) →
         Fetches (by_pick L.pick) (whole regs.now flags) (L.seen code.old.lin) (Instruction insn.new count) (L.seen code.new.lin)) }
     ensures refused { IfErr result (λ fault. (flags : ℕ) →
         Fetches (by_pick L.pick) (whole regs.now flags) (L.seen code.old.lin) (Refused fault) (L.seen code.new.lin)) }
-    ensures memory { L.seen code.new.lin ≡ L.seen code.old.lin }
+    ensures keeps { Keeps (L.seen code.old.lin) (L.seen code.new.lin) }
+    ensures quiet { IsQuiet (L.seen code.new.lin) }
 {
     if let Some(count) = decode_near(code, regs, insn) {
         return Ok(count);
