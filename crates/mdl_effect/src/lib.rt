@@ -1,11 +1,11 @@
-//! What the data, flow, string and system instructions do, as it is written down: plans of reads,
+//! What the data, flow, string, far and system instructions do, as it is written down: plans of reads,
 //! writes and checks.
 //!
 //! The one contract used above is the definitions themselves, `data_effect`, `flow_effect`,
-//! `string_plan` and `system_effect`, with the laws on what is spelt: its operands have the form of
-//! its mnemonic, it comes to no row that no instruction has, and it leaves the mode, or sound
+//! `string_plan`, `far_run` and `system_effect`, with the laws on what is spelt: its operands have the
+//! form of its mnemonic, it comes to no row that no instruction has, and it leaves the mode, or sound
 //! registers. Read `specs/Operands.antt` first, then `DataEffects`, `StackEffects`, `Jumps`,
-//! `FlowEffects`, `StringEffects`, `SystemEffects`.
+//! `FlowEffects`, `StringEffects`, `FarEffects`, `SystemEffects`.
 #![tactic(auto)]
 
 mod laws;
