@@ -75,6 +75,7 @@ fn attempt<L: Linear>(regs: &mut Regs, lin: &mut L, cause: Cause) -> Result<bool
         ≡ delivered_by_gate (by_pick L.pick) cause regs.old (L.seen lin.old) }
     ensures ready { CanDeliver regs.new (L.seen lin.new) }
     ensures sound { IsSound regs.old → IsSound regs.new }
+    ensures tables { Agree regs.old (L.seen lin.old) → Agree regs.new (L.seen lin.new) }
     ensures keeps { KeepsPhysical (L.seen lin.old).physical (L.seen lin.new).physical }
     ensures held { (L.seen lin.new).held ≡ [] }
 {
@@ -104,6 +105,7 @@ pub fn deliver<L: Linear>(regs: &mut Regs, lin: &mut L, cause: Cause) -> Deliver
         ≡ deliver_by_gate (by_pick L.pick) cause regs.old (L.seen lin.old) }
     ensures ready { CanDeliver regs.new (L.seen lin.new) }
     ensures sound { IsSound regs.old → IsSound regs.new }
+    ensures tables { Agree regs.old (L.seen lin.old) → Agree regs.new (L.seen lin.new) }
     ensures keeps { KeepsPhysical (L.seen lin.old).physical (L.seen lin.new).physical }
     ensures watch { KeepsWatch (L.seen lin.old) (L.seen lin.new) }
     ensures held { (L.seen lin.new).held ≡ [] }

@@ -1,5 +1,5 @@
 use Rattle.std.proofs.Common.{◌∙◌}
-use Rattle.mdl_cpu.specs.Steady.{steady_sound}
+use Rattle.mdl_cpu.specs.Steady.{steady_sound, steady_agrees}
 use Rattle.mdl_cpu.proofs.ServingLaws.{then_kept}
 use Rattle.fault_delivery.proofs.Attempts.{physical_keeps}
 use Rattle.fault_delivery.proofs.Chains.{once_watch, done, ended, went_on, smaller, both_steady, stays_on, addressed, address_ready}
@@ -52,6 +52,7 @@ loop-trap-preserved g c =
       ready = address_ready c.attempt.new.regs c.note_address.new.regs (g.L.Linear.seen c.attempt.new.lin) there c.attempt.ensures.ready;
       held = c.attempt.ensures.held;
       sound = λ h. steady_sound c.attempt.new.regs c.note_address.new.regs there (c.attempt.ensures.sound (c.loop-trap.invariant.sound h));
+      tables = λ h. steady_agrees c.attempt.new.regs c.note_address.new.regs (g.L.Linear.seen c.attempt.new.lin) there (c.attempt.ensures.tables (c.loop-trap.invariant.tables h));
       keeps = physical_keeps (g.L.Linear.seen c.args.lin.now) (g.L.Linear.seen c.loop-trap.lin) (g.L.Linear.seen c.attempt.new.lin) c.loop-trap.invariant.keeps c.attempt.ensures.keeps;
       watch = then_kept c.loop-trap.invariant.watch
           (once_watch g.L.Linear.pick c.loop-trap.next c.loop-trap.regs c.attempt.new.regs (g.L.Linear.seen c.loop-trap.lin) (g.L.Linear.seen c.attempt.new.lin) c.attempt.result c.attempt.ensures.run);

@@ -2,7 +2,7 @@ use Rattle.std.proofs.Common.{◌≡◌, false, []}
 use Rattle.mdl_state.specs.Serving.{by_pick}
 use Rattle.mdl_state.specs.Accesses.{KeepsPhysical}
 use Rattle.mdl_cpu.specs.Segments.{has_protection}
-use Rattle.mdl_cpu.specs.Steady.{IsSound, Steady}
+use Rattle.mdl_cpu.specs.Steady.{Agree, IsSound, Steady}
 use Rattle.mdl_cpu.specs.DoubleFault.{class_of}
 use Rattle.mdl_cpu.specs.TaskDeliveries.{deliver_by_gate}
 use Rattle.mdl_cpu.specs.Deliveries.{KeepsWatch}
@@ -20,6 +20,7 @@ invariant-loop-trap g l =
       ready : CanDeliver l.regs (seen l.lin);
       held : (seen l.lin).held ≡ [];
       sound : IsSound l.fn.regs → IsSound l.regs;
+      tables : Agree l.fn.regs (seen l.fn.lin) → Agree l.regs (seen l.lin);
       keeps : KeepsPhysical (seen l.fn.lin).physical (seen l.lin).physical;
       watch : KeepsWatch (seen l.fn.lin) (seen l.lin);
       real : has_protection l.fn.regs ≡ false → Steady l.fn.regs l.regs;
