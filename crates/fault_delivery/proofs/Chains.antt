@@ -5,7 +5,7 @@ use Rattle.mdl_state.specs.declared.Regs.{Regs}
 use Rattle.mdl_state.specs.declared.Fault.{Fault}
 use Rattle.mdl_state.specs.State.{Mem}
 use Rattle.mdl_state.specs.Bytes.{bit}
-use Rattle.mdl_state.specs.Serving.{Pick, Outcome, Passed, Failed, outcome, by_pick}
+use Rattle.mdl_state.specs.Serving.{Pick, Passed, Failed, outcome, by_pick}
 use Rattle.mdl_cpu.specs.declared.Cause.{Cause}
 use Rattle.mdl_cpu.specs.Segments.{has_protection}
 use Rattle.mdl_cpu.specs.Steady.{Steady, steady_sound, steady_agrees}
