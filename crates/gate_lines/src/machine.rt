@@ -15,6 +15,9 @@ const ROOM: u16 = 256;
 /// The selector of a stack that a line sets.
 const STACK: u16 = 0x10;
 
+/// The vector of a page fault.
+const PAGE_FAULT: u8 = 14;
+
 /// The low word of a number.
 fn word(number: u32) -> u16 {
     (number % 0x1_0000) as u16
@@ -89,13 +92,27 @@ impl Machine {
         Answer::Number(self.memory.read(at, Size::B4, Who::Supervisor).ok())
     }
 
+    /// The registers as a line's cause finds them: the address of a page fault is in CR2 already.
+    fn begun(&self, line: &Line) -> Regs {
+        let [vector, _, addr] = line.numbers;
+        if line.act == Act::Fault && byte(vector) == PAGE_FAULT {
+            Regs {
+                cr2: addr,
+                ..self.setup
+            }
+        } else {
+            self.setup
+        }
+    }
+
     /// Delivers what a line says.
     #[tactic(auto, using(fault_delivery::proofs::Attempts::task_ready))]
     fn deliver(&mut self, line: &Line) -> Answer {
         if self.memory.room() < ROOM {
             return Answer::Silent;
         }
-        let mut regs = in_mode(&self.setup, self.mode, self.paging, self.stack);
+        let setup = self.begun(line);
+        let mut regs = in_mode(&setup, self.mode, self.paging, self.stack);
         self.memory.set_paging(self.paging);
         self.memory.load_cr3(regs.cr3);
         let [vector, code, addr] = line.numbers;

@@ -12,10 +12,11 @@
 //! stack, and `eip` and `esp` these. `desc` puts a descriptor where its selector says, `gate` one where its
 //! vector says, `put` a doubleword, and `long` shows one, each at a physical address.
 //!
-//! `fault` has a vector, an error code and an address, `int` and `line` a vector: they deliver a fault, a
-//! software interrupt of two bytes, and an interrupt from outside. What is shown is whether that arrives,
-//! traps in a task or shuts down, and TR, CPL, CS:EIP, SS:ESP, EFLAGS and CR2 behind it. The next line
-//! begins with the registers of before, over memory as it is left.
+//! `fault` has a vector, an error code and an address, which a page fault has in CR2 as it is delivered,
+//! `int` and `line` a vector: they deliver a fault, a software interrupt of two bytes, and an interrupt from
+//! outside. What is shown is whether that arrives, traps in a task or shuts down, and TR, CPL, CS:EIP,
+//! SS:ESP, EFLAGS and CR2 behind it. The next line begins with the registers of before, over memory as it is
+//! left.
 #![tactic(auto)]
 
 mod lines;
