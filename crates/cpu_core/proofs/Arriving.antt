@@ -18,7 +18,9 @@ use Rattle.mdl_cpu.specs.Steady.{Steady, IsSound, steady_sound}
 use Rattle.mdl_insn.specs.declared.mnemonics.Op.{Op}
 use Rattle.mdl_step.specs.Delivering.{BT, arrived}
 use Rattle.mdl_step.specs.Step.{keeps_resume, landed, resumed}
-use Rattle.lazy_flags.specs.Keeper.{with_status}
+use Rattle.lazy_flags.specs.Keeper.{kept}
+use Rattle.mdl_state.specs.declared.Size.TheVariants.{B4}
+use Rattle.lazy_flags.specs.declared.operation.FlagOp.TheVariants.{Plain}
 use Rattle.operands.specs.Whole.{whole}
 use Rattle.fault_delivery.specs.declared.deliveries.Delivered.{Delivered}
 use Rattle.fault_delivery.specs.declared.deliveries.Delivered.TheVariants.{Done, Shutdown}
@@ -49,11 +51,11 @@ real_sound r control flags level = record {
 }
 
 -- the registers after a reset, over plain memory
-pub reset_plain : (r : Regs) (f : ℕ) (m : Mem) → r ≡ reset_regs → f ≡ with_status 0 r.eflags → IsPlain m → IsReady (whole r f) m
+pub reset_plain : (r : Regs) (f : ℕ) (m : Mem) → r ≡ reset_regs → f ≡ kept Plain r.eflags 0 B4 → IsPlain m → IsReady (whole r f) m
 reset_plain r f m is unpacked plain = subst (λ (q : Regs). IsReady q m) (sym (ap (whole r) unpacked ∙ whole_unpacked r ∙ is))
     (record { sound = real_sound reset_regs refl refl refl; paging = λ _. plain.paging; held = plain.held; served = plain.served; watch = plain.watch; hits = plain.hits })
 
-pub reset_ready : (r q : Regs) (f : ℕ) (on : Bool) (m n : Mem) → r ≡ reset_regs → f ≡ with_status 0 r.eflags → IsReady q m → n ≡ with_a20 on (record m { paging = false; cr3 = 0; cache = empty }) → IsReady (whole r f) n
+pub reset_ready : (r q : Regs) (f : ℕ) (on : Bool) (m n : Mem) → r ≡ reset_regs → f ≡ kept Plain r.eflags 0 B4 → IsReady q m → n ≡ with_a20 on (record m { paging = false; cr3 = 0; cache = empty }) → IsReady (whole r f) n
 reset_ready r q f on m n is unpacked ready same = reset_plain r f n is unpacked (record {
   paging = ap (λ (k : Mem). k.paging) same;
   held = ap (λ (k : Mem). k.held) same ∙ ready.held;

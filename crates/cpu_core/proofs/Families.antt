@@ -36,7 +36,9 @@ use Rattle.mdl_cpu.specs.Faults.{undefined_opcode}
 use Rattle.mdl_step.specs.Effects.{effect}
 use Rattle.mdl_step.proofs.EffectLaws.{effect_none}
 use Rattle.mdl_step.specs.Step.{remapped}
-use Rattle.lazy_flags.specs.Keeper.{with_status}
+use Rattle.lazy_flags.specs.Keeper.{with_status, kept}
+use Rattle.mdl_state.specs.declared.Size.TheVariants.{B4}
+use Rattle.lazy_flags.specs.declared.operation.FlagOp.TheVariants.{Plain}
 use Rattle.operands.specs.Whole.{whole, ran, ran_at}
 use Rattle.operands.proofs.Statuses.{own_flags, unpacked}
 use Rattle.cpu_core.specs.Executing.{MayFollow}
@@ -267,7 +269,7 @@ unfolding flags_after untouched_status
 untouched e = sym (own_flags e)
 
 -- flags that are taken apart and put together again
-pub whole_unpacked : (r : Regs) → whole r (with_status 0 r.eflags) ≡ r
+pub whole_unpacked : (r : Regs) → whole r (kept Plain r.eflags 0 B4) ≡ r
 whole_unpacked r = ap (λ (e : ℕ). record r { eflags = e }) (unpacked untouched_status r.eflags r.eflags r.eflags (untouched r.eflags))
 
 pub kept_whole : (answer : Result Next Fault) (r s : Regs) (f g : ℕ) → OnErr answer ((s ≡ r) × (g ≡ f)) → OnErr answer (whole s g ≡ whole r f)

@@ -76,7 +76,7 @@ impl<L: Linear, P: Ports> Model for Cpu<L, P> {
 
 impl<L: Linear, P: Ports> Cpu<L, P> {
     /// The processor after a reset, before its first step.
-    #[tactic(auto, unfolding(lazy_flags::specs::Keeper::with_status, mdl_num::specs::Flags::is_set, mdl_num::specs::Flags::with_bit))]
+    #[tactic(auto, unfolding(lazy_flags::specs::Keeper::with_status, lazy_flags::specs::Keeper::kept, lazy_flags::specs::Keeper::left, lazy_flags::specs::Keeper::operation_status, mdl_num::specs::Flags::flags_after, mdl_num::specs::Flags::is_set, mdl_num::specs::Flags::with_bit))]
     pub fn new(lin: L, ports: P) -> Cpu<L, P>
         requires plain { IsPlain (L.seen lin) }
         ensures core { result.state.core ≡ reset_core }
@@ -343,7 +343,7 @@ impl<L: Linear, P: Ports> Cpu<L, P> {
 
     /// Resets the processor. Memory, the ports and the count of steps stay; the line A20 is then as the
     /// ports have it. Manual, chapter 10.
-    #[tactic(auto, unfolding(lazy_flags::specs::Keeper::with_status, mdl_num::specs::Flags::is_set, mdl_num::specs::Flags::with_bit))]
+    #[tactic(auto, unfolding(lazy_flags::specs::Keeper::with_status, lazy_flags::specs::Keeper::kept, lazy_flags::specs::Keeper::left, lazy_flags::specs::Keeper::operation_status, mdl_num::specs::Flags::flags_after, mdl_num::specs::Flags::is_set, mdl_num::specs::Flags::with_bit))]
     pub fn reset(&mut self)
         ensures { self.new ≡ reset_with (rules_of P.Ports) self.old.board self.old }
     {

@@ -22,7 +22,7 @@ from_bool-is_set n k = grind (arith, nat_tests, bit_at-lt n k)
 
 pub ruleset bits = (from_bool-is_set)
 
-put_other : (k : ℕ) (f : Flag) (free n j : ℕ) → j ≢ k → bit_at (put k f free n) j ≡ bit_at n j
+pub put_other : (k : ℕ) (f : Flag) (free n j : ℕ) → j ≢ k → bit_at (put k f free n) j ≡ bit_at n j
 put_other k (Tells b) free n j e = bit_at-with_bit_other n k (from_bool b) j (from_bool-lt b) e
 put_other k Undefined free n j e = bit_at-with_bit_other n k (bit_at free k) j (bit_at-lt free k) e
 put_other k Stays free n j e = refl
@@ -72,14 +72,14 @@ packed s e F G same c p a z n o =
     ap (copied OF F) sign ∙ step OF s.overflow F G _ o
 
 -- a flag that a rule tells is told in what the rules leave
-left_carry : (s : Status) (old free : ℕ) (b : Bool) → s.carry ≡ Tells b → bit_at (flags_after s old free) CF ≡ from_bool b
+pub left_carry : (s : Status) (old free : ℕ) (b : Bool) → s.carry ≡ Tells b → bit_at (flags_after s old free) CF ≡ from_bool b
 unfolding flags_after
 left_carry s old free b e =
     put_other OF s.overflow free _ CF (omega arith) ∙ put_other SF s.sign free _ CF (omega arith) ∙ put_other ZF s.zero free _ CF (omega arith)
     ∙ put_other AF s.adjust free _ CF (omega arith) ∙ put_other PF s.parity free _ CF (omega arith)
     ∙ put_own CF s.carry free old b e
 
-left_parity : (s : Status) (old free : ℕ) (b : Bool) → s.parity ≡ Tells b → bit_at (flags_after s old free) PF ≡ from_bool b
+pub left_parity : (s : Status) (old free : ℕ) (b : Bool) → s.parity ≡ Tells b → bit_at (flags_after s old free) PF ≡ from_bool b
 unfolding flags_after
 left_parity s old free b e =
     put_other OF s.overflow free _ PF (omega arith) ∙ put_other SF s.sign free _ PF (omega arith) ∙ put_other ZF s.zero free _ PF (omega arith)
@@ -91,12 +91,12 @@ left_adjust s old free b e =
     put_other OF s.overflow free _ AF (omega arith) ∙ put_other SF s.sign free _ AF (omega arith) ∙ put_other ZF s.zero free _ AF (omega arith)
     ∙ put_own AF s.adjust free _ b e
 
-left_zero : (s : Status) (old free : ℕ) (b : Bool) → s.zero ≡ Tells b → bit_at (flags_after s old free) ZF ≡ from_bool b
+pub left_zero : (s : Status) (old free : ℕ) (b : Bool) → s.zero ≡ Tells b → bit_at (flags_after s old free) ZF ≡ from_bool b
 unfolding flags_after
 left_zero s old free b e =
     put_other OF s.overflow free _ ZF (omega arith) ∙ put_other SF s.sign free _ ZF (omega arith) ∙ put_own ZF s.zero free _ b e
 
-left_sign : (s : Status) (old free : ℕ) (b : Bool) → s.sign ≡ Tells b → bit_at (flags_after s old free) SF ≡ from_bool b
+pub left_sign : (s : Status) (old free : ℕ) (b : Bool) → s.sign ≡ Tells b → bit_at (flags_after s old free) SF ≡ from_bool b
 unfolding flags_after
 left_sign s old free b e = put_other OF s.overflow free _ SF (omega arith) ∙ put_own SF s.sign free _ b e
 

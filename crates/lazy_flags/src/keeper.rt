@@ -1,26 +1,40 @@
 //! The flags' keeper.
 
-ghost use Rattle.std.specs.Prelude.{◌≡◌, ℕ, IsTrue};
-ghost use Rattle.mdl_num.specs.Flags.{is_set, flags_after};
+ghost use Rattle.std.specs.Prelude.{◌≡◌, ◌<◌, ◌==◌, ◌^◌, ℕ, nat_le, IsTrue, IfNone, IfSome};
+ghost use Rattle.mdl_num.specs.Flags.{is_set, flags_after, has_even_parity};
+ghost use Rattle.mdl_num.specs.Sizes.{half_of};
+ghost use Rattle.mdl_num.specs.declared.status.Flag.TheVariants.{Tells};
 ghost use Rattle.mdl_num.specs.Sums.{logic_status};
-ghost use Rattle.lazy_flags.specs.Keeper.{with_status, is_status_bit, operation_status, FitsOperation};
+ghost use Rattle.mdl_state.specs.declared.Size.{Size as OneSize};
+ghost use Rattle.mdl_state.specs.declared.Size.TheVariants.{B4};
+ghost use Rattle.lazy_flags.specs.declared.operation.FlagOp.{FlagOp as OneOp};
+ghost use Rattle.lazy_flags.specs.declared.operation.FlagOp.TheVariants.{Plain};
+ghost use Rattle.lazy_flags.specs.Keeper.{with_status, is_status_bit, operation_status, FitsOperation, left, kept};
 
 use crate::operation::FlagOp;
-use alu_ops::{add, dec, inc, sub};
-use mdl_num::{AF, CF, Flag, OF, PF, SF, ZF, bit, of_result, settle, with_bit};
+use alu_ops::{add, dec, difference, inc, sub, sum};
+use mdl_num::{AF, CF, Flag, OF, PF, SF, ZF, bit, bound, half, is_even_parity, of_result, settle, with_bit};
 use mdl_state::Size;
 use std::marker::Model;
 
-/// The six status flags.
+/// The six status flags: the last operation, with its numbers.
 #[derive(Drop)]
 pub struct Flags {
-    word: u32,
+    op: FlagOp,
+    a: u32,
+    b: u32,
+    size: Size,
 }
 
 impl Model for Flags {
+    ghost use Rattle.std.specs.Prelude.{ℕ, ◌<◌, ◌^◌};
+    ghost use Rattle.lazy_flags.specs.Keeper.{kept, FitsOperation};
+
     ghost Value = { ℕ };
 
-    ghost view = { λ flags. flags.word };
+    ghost view = { λ flags. kept flags.op flags.a flags.b flags.size };
+
+    ghost invariant = { λ flags. FitsOperation flags.op flags.size flags.a flags.b × (flags.a < 2 ^ 32) };
 }
 
 /// EFLAGS with the status flags of another number.
@@ -37,25 +51,62 @@ fn with_status(eflags: u32, from: u32) -> u32
 }
 
 /// The flags of AND, OR and XOR, by their result.
-#[tactic(auto, unfolding(mdl_num::specs::Sums::logic_status))]
+#[tactic(auto, unfolding(mdl_num::specs::Sums::logic_status, mdl_num::specs::Flags::status_of_result, mdl_num::specs::Flags::flags_after))]
 fn after_logic(value: u32, size: Size) -> u32
-    ensures { result ≡ flags_after (logic_status size value) 0 result }
+    ensures { result ≡ flags_after (logic_status size value) 0 0 }
 {
     let status = of_result(
         value,
         size,
         Flag::Tells(false),
-        Flag::Undefined,
+        Flag::Tells(false),
         Flag::Tells(false),
     );
     settle(status, 0)
 }
 
+/// CF after an operation.
+#[tactic(auto, unfolding(crate::specs::Keeper::operation_status, mdl_num::specs::Sums::sum_status, mdl_num::specs::Sums::difference_status, mdl_num::specs::Sums::logic_status, mdl_num::specs::Flags::status_of_result))]
+fn carry(op: FlagOp, a: u32, b: u32, size: Size) -> bool
+    ensures { (operation_status op size a b).carry ≡ Tells result }
+{
+    let (wide, other) = (u64::from(a), u64::from(b));
+    match op {
+        FlagOp::Add => bound(size) <= wide + other,
+        FlagOp::AddCarry(carry) => bound(size) <= wide + other + u64::from(carry),
+        FlagOp::Sub => wide < other,
+        FlagOp::SubBorrow(borrow) => wide < other + u64::from(borrow),
+        FlagOp::Logic => false,
+        FlagOp::Inc(carry) | FlagOp::Dec(carry) => carry,
+        FlagOp::Plain => bit(a, CF),
+    }
+}
+
+/// The value that an operation leaves, or nothing of a number that has the flags themselves.
+#[tactic(auto, unfolding(crate::specs::Keeper::operation_status, mdl_num::specs::Sums::sum_status, mdl_num::specs::Sums::difference_status, mdl_num::specs::Sums::logic_status, mdl_num::specs::Flags::status_of_result))]
+fn value(op: FlagOp, a: u32, b: u32, size: Size) -> Option<u32>
+    requires { FitsOperation op size a b }
+    ensures none { IfNone result (op ≡ Plain) }
+    ensures zero { IfSome result (λ v. (operation_status op size a b).zero ≡ Tells (v == 0)) }
+    ensures sign { IfSome result (λ v. (operation_status op size a b).sign ≡ Tells (nat_le (half_of size) v)) }
+    ensures parity { IfSome result (λ v. (operation_status op size a b).parity ≡ Tells (has_even_parity v)) }
+{
+    match op {
+        FlagOp::Add => Some(sum(a, b, false, size)),
+        FlagOp::AddCarry(carry) => Some(sum(a, b, carry, size)),
+        FlagOp::Sub => Some(difference(a, b, false, size)),
+        FlagOp::SubBorrow(borrow) => Some(difference(a, b, borrow, size)),
+        FlagOp::Logic => Some(a),
+        FlagOp::Inc(_) => Some(sum(a, 1, false, size)),
+        FlagOp::Dec(_) => Some(difference(a, 1, false, size)),
+        FlagOp::Plain => None,
+    }
+}
+
 /// The flags that an operation leaves.
-#[tactic(auto, unfolding(crate::specs::Keeper::operation_status))]
 fn left_by(op: FlagOp, a: u32, b: u32, size: Size) -> u32
     requires { FitsOperation op size a b }
-    ensures { result ≡ flags_after (operation_status op size a b) 0 result }
+    ensures { result ≡ left op a b size }
 {
     match op {
         FlagOp::Add => add(a, b, false, size, 0).flags,
@@ -71,34 +122,67 @@ fn left_by(op: FlagOp, a: u32, b: u32, size: Size) -> u32
 
 impl Flags {
     /// The operation was made on these numbers.
+    #[inline(always)]
     pub fn set_from(&mut self, op: FlagOp, a: u32, b: u32, size: Size)
         requires { FitsOperation op size a b }
-        ensures { self.new ≡ flags_after (operation_status op size a b) 0 self.new }
+        ensures { self.new ≡ kept op a b size }
     {
-        self.word = left_by(op, a, b, size);
+        self.op = op;
+        self.a = a;
+        self.b = b;
+        self.size = size;
+    }
+
+    /// The last operation, with its numbers and their size.
+    pub fn last(&self) -> (FlagOp, u32, u32, Size)
+        ensures { (op : OneOp) (a b : ℕ) (size : OneSize) → a < 2 ^ 32 → self.now ≡ kept op a b size
+            → (result.0 ≡ op) × (result.1 ≡ a) × (result.2 ≡ b) × (result.3 ≡ size) }
+    {
+        (self.op, self.a, self.b, self.size)
+    }
+
+    /// The six flags at their places.
+    #[tactic(auto, using(crate::proofs::Kept::kept_flag, crate::proofs::Kept::kept_packed))]
+    fn word(&self) -> u32
+        ensures flags { (k : ℕ) → IsTrue (is_status_bit k) → is_set result k ≡ is_set self.now k }
+        ensures packed { (e : ℕ) → with_status e result ≡ with_status e self.now }
+    {
+        left_by(self.op, self.a, self.b, self.size)
     }
 
     /// A flag, by its bit in EFLAGS.
+    #[tactic(auto, using(crate::proofs::Kept::told_flags), unfolding(crate::specs::Keeper::operation_status))]
     pub fn get(&self, flag: u8) -> bool
         requires { IsTrue (is_status_bit flag) }
         ensures { result ≡ is_set self.now flag }
     {
-        bit(self.word, flag)
+        if flag == CF {
+            return carry(self.op, self.a, self.b, self.size);
+        }
+        match (flag, value(self.op, self.a, self.b, self.size)) {
+            (PF, Some(value)) => is_even_parity(value),
+            (ZF, Some(value)) => value == 0,
+            (SF, Some(value)) => half(self.size) <= value,
+            _ => bit(self.word(), flag),
+        }
     }
 
     /// EFLAGS with these flags.
     pub fn pack(&self, eflags: u32) -> u32
         ensures { result ≡ with_status eflags self.now }
     {
-        with_status(eflags, self.word)
+        with_status(eflags, self.word())
     }
 
     /// The flags of EFLAGS.
     pub fn unpack(eflags: u32) -> Flags
-        ensures { result ≡ with_status 0 eflags }
+        ensures { result ≡ kept Plain eflags 0 B4 }
     {
         Flags {
-            word: with_status(0, eflags),
+            op: FlagOp::Plain,
+            a: eflags,
+            b: 0,
+            size: Size::B4,
         }
     }
 }
@@ -125,5 +209,10 @@ mod tests {
         assert_eq!(rt; flags.pack(0x602) & !(1 << AF), 0x646);
         flags.set_from(FlagOp::Plain, 0xffff_ffff, 0, Size::B4);
         assert_eq!(rt; flags.pack(0), 0x8d5);
+        flags.set_from(FlagOp::Inc(true), 0x7f, 1, Size::B1);
+        assert!(rt; flags.get(CF) && flags.get(OF) && flags.get(SF) && flags.get(AF));
+        assert!(rt; !flags.get(ZF) && !flags.get(PF));
+        assert!(rt; flags.last() == (FlagOp::Inc(true), 0x7f, 1, Size::B1));
+        assert!(rt; Flags::unpack(0x246).last() == (FlagOp::Plain, 0x246, 0, Size::B4));
     }
 }

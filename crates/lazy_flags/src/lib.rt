@@ -1,8 +1,9 @@
 //! The status flags, kept apart from EFLAGS.
 //!
-//! `Flags` is told the last operation and its operands, and gives a flag or packs all six into
-//! EFLAGS as that operation's own rules say. Here they are worked out at once. Contracts see a
-//! `Flags` as a number that has the status flags at their places. Read `specs/Keeper.antt` first.
+//! `Flags` is told the last operation and its numbers, keeps them, and works out a flag where it is
+//! asked for, or packs all six into EFLAGS, as that operation's own rules say. Contracts see a
+//! `Flags` as a number that has the status flags at their places, and above them which operation
+//! left them. Read `specs/Keeper.antt` first.
 #![tactic(auto)]
 
 mod keeper;

@@ -6,14 +6,16 @@ use Rattle.std.specs.Int.{bit_at}
 use Rattle.std.proofs.lemmas.Bool.{cases_eq}
 use Rattle.std.proofs.lemmas.Nat.Bits.{bit_at-lt, same_from_bits}
 use Rattle.mdl_state.specs.declared.Size.{Size}
+use Rattle.mdl_state.specs.declared.Size.TheVariants.{B4}
 use Rattle.mdl_num.specs.Flags.{is_set, flags_after, untouched_status}
 use Rattle.mdl_num.specs.Sums.{sum_status, difference_status, logic_status, increment_status, decrement_status}
 use Rattle.mdl_num.specs.declared.status.Status.{Status}
 use Rattle.mdl_num.specs.declared.status.TheConstants.{CF, PF, AF, ZF, SF, OF}
 use Rattle.mdl_num.proofs.FlagLemmas.{bit_at-flags_after}
-use Rattle.lazy_flags.specs.Keeper.{with_status, operation_status}
-use Rattle.lazy_flags.specs.declared.operation.FlagOp.TheVariants.{Add, AddCarry, Sub, SubBorrow, Logic, Inc, Dec}
-use Rattle.lazy_flags.proofs.Packing.{copied_own, copied_other, with_status-operation, with_status-increment, with_status-decrement}
+use Rattle.lazy_flags.specs.Keeper.{with_status, kept}
+use Rattle.lazy_flags.specs.declared.operation.FlagOp.TheVariants.{Add, AddCarry, Sub, SubBorrow, Logic, Inc, Dec, Plain}
+use Rattle.lazy_flags.proofs.Packing.{copied_own, copied_other}
+use Rattle.lazy_flags.proofs.Kept.{kept_operation, kept_increment, kept_decrement, kept_number}
 
 -- ---- the bits of packed flags
 
@@ -98,8 +100,8 @@ own_flags e = same_flags _ _ (carry_bit e e) (parity_bit e e) (adjust_bit e e) (
     (λ j c p a z n o. other_bit e e j c p a z n o)
 
 -- EFLAGS as an operation leaves it is what its flags make, packed into EFLAGS as it was
-pub unpacked : (s : Status) (e F G : ℕ) → G ≡ flags_after s (with_status e F) G → with_status e (with_status 0 G) ≡ G
-unpacked s e F G left = same_flags _ _
+pub unpacked : (s : Status) (e F G : ℕ) → G ≡ flags_after s (with_status e F) G → with_status e (kept Plain G 0 B4) ≡ G
+unpacked s e F G left = kept_number e G ∙ same_flags _ _
     (carry_bit e (with_status 0 G) ∙ carry_bit 0 G) (parity_bit e (with_status 0 G) ∙ parity_bit 0 G)
     (adjust_bit e (with_status 0 G) ∙ adjust_bit 0 G) (zero_bit e (with_status 0 G) ∙ zero_bit 0 G)
     (sign_bit e (with_status 0 G) ∙ sign_bit 0 G) (overflow_bit e (with_status 0 G) ∙ overflow_bit 0 G)
@@ -146,40 +148,40 @@ pub ruleset packed_bits = (packed_carry, packed_zero, packed_parity, packed_sign
 
 -- ---- what the keeper's operations leave, packed
 
-pub sum_kept : (size : Size) (a b e F G : ℕ) → G ≡ flags_after (operation_status Add size a b) 0 G
+pub sum_kept : (size : Size) (a b e F G : ℕ) → G ≡ kept Add a b size
     → with_status e G ≡ flags_after (sum_status size a b false) (with_status e F) (with_status e G)
 unfolding operation_status
-sum_kept size a b e F G left = rw packed_again at (with_status-operation Add size a b (with_status e F) G left)
+sum_kept size a b e F G left = rw packed_again at (kept_operation Add size a b (with_status e F) G left)
 
-pub sum_carried : (size : Size) (a b : ℕ) (carry : Bool) (e F G : ℕ) → G ≡ flags_after (operation_status (AddCarry carry) size a b) 0 G
+pub sum_carried : (size : Size) (a b : ℕ) (carry : Bool) (e F G : ℕ) → G ≡ kept (AddCarry carry) a b size
     → with_status e G ≡ flags_after (sum_status size a b carry) (with_status e F) (with_status e G)
 unfolding operation_status
-sum_carried size a b carry e F G left = rw packed_again at (with_status-operation (AddCarry carry) size a b (with_status e F) G left)
+sum_carried size a b carry e F G left = rw packed_again at (kept_operation (AddCarry carry) size a b (with_status e F) G left)
 
-pub difference_kept : (size : Size) (a b e F G : ℕ) → G ≡ flags_after (operation_status Sub size a b) 0 G
+pub difference_kept : (size : Size) (a b e F G : ℕ) → G ≡ kept Sub a b size
     → with_status e G ≡ flags_after (difference_status size a b false) (with_status e F) (with_status e G)
 unfolding operation_status
-difference_kept size a b e F G left = rw packed_again at (with_status-operation Sub size a b (with_status e F) G left)
+difference_kept size a b e F G left = rw packed_again at (kept_operation Sub size a b (with_status e F) G left)
 
-pub difference_borrowed : (size : Size) (a b : ℕ) (borrow : Bool) (e F G : ℕ) → G ≡ flags_after (operation_status (SubBorrow borrow) size a b) 0 G
+pub difference_borrowed : (size : Size) (a b : ℕ) (borrow : Bool) (e F G : ℕ) → G ≡ kept (SubBorrow borrow) a b size
     → with_status e G ≡ flags_after (difference_status size a b borrow) (with_status e F) (with_status e G)
 unfolding operation_status
-difference_borrowed size a b borrow e F G left = rw packed_again at (with_status-operation (SubBorrow borrow) size a b (with_status e F) G left)
+difference_borrowed size a b borrow e F G left = rw packed_again at (kept_operation (SubBorrow borrow) size a b (with_status e F) G left)
 
-pub logic_kept : (size : Size) (value b e F G : ℕ) → G ≡ flags_after (operation_status Logic size value b) 0 G
+pub logic_kept : (size : Size) (value b e F G : ℕ) → G ≡ kept Logic value b size
     → with_status e G ≡ flags_after (logic_status size value) (with_status e F) (with_status e G)
 unfolding operation_status
-logic_kept size value b e F G left = rw packed_again at (with_status-operation Logic size value b (with_status e F) G left)
+logic_kept size value b e F G left = rw packed_again at (kept_operation Logic size value b (with_status e F) G left)
 
-pub increment_kept : (size : Size) (a b e F G : ℕ) → G ≡ flags_after (operation_status (Inc (is_set F CF)) size a b) 0 G
+pub increment_kept : (size : Size) (a b e F G : ℕ) → G ≡ kept (Inc (is_set F CF)) a b size
     → with_status e G ≡ flags_after (increment_status size a) (with_status e F) (with_status e G)
 increment_kept size a b e F G left = rw packed_again at
-    (with_status-increment size a b (with_status e F) G (rw (packed_carry e F) left))
+    (kept_increment size a b (with_status e F) G (rw (packed_carry e F) left))
 
-pub decrement_kept : (size : Size) (a b e F G : ℕ) → G ≡ flags_after (operation_status (Dec (is_set F CF)) size a b) 0 G
+pub decrement_kept : (size : Size) (a b e F G : ℕ) → G ≡ kept (Dec (is_set F CF)) a b size
     → with_status e G ≡ flags_after (decrement_status size a) (with_status e F) (with_status e G)
 decrement_kept size a b e F G left = rw packed_again at
-    (with_status-decrement size a b (with_status e F) G (rw (packed_carry e F) left))
+    (kept_decrement size a b (with_status e F) G (rw (packed_carry e F) left))
 
 -- where no flag changes
 pub untouched : (old free : ℕ) → old ≡ flags_after untouched_status old free
