@@ -1,3 +1,4 @@
 pub mod Failing
+pub mod Last
 pub mod Places
 pub mod Reads

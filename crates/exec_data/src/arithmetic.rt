@@ -7,11 +7,13 @@ ghost use Rattle.mdl_state.specs.Accesses.{Keeps, HasRoom};
 ghost use Rattle.mdl_state.specs.Attempt.{tried};
 ghost use Rattle.mdl_num.specs.Flags.{flags_after};
 ghost use Rattle.mdl_num.specs.Sums.{logic_value, logic_status};
-ghost use Rattle.lazy_flags.specs.Keeper.{with_status};
-ghost use Rattle.mdl_effect.specs.Operands.{follow};
+ghost use Rattle.lazy_flags.specs.Keeper.{with_status, kept};
+ghost use Rattle.lazy_flags.specs.declared.operation.FlagOp.TheVariants.{Logic};
+ghost use Rattle.mdl_effect.specs.Operands.{follow, value_of};
 ghost use Rattle.mdl_effect.specs.Arithmetic.{binary, unary, binary_plan, compare_plan, unary_plan};
 ghost use Rattle.operands.specs.Whole.{whole, after, IsPlainOf, KeepsOther};
 ghost use Rattle.operands.specs.Memory.{IsMemoryOf};
+ghost use Rattle.exec_data.specs.Last.{last_of_two, last_of_one};
 
 use alu_ops::{bitwise, difference, sum};
 use lazy_flags::{FlagOp, Flags};
@@ -30,6 +32,7 @@ fn logic(op: LogicOp, a: u32, b: u32, size: Size, flags: &mut Flags) -> u32
     ensures bound { result < bound_of size }
     ensures status { (e : ℕ) → with_status e flags.new
         ≡ flags_after (logic_status size (logic_value op a b)) (with_status e flags.old) (with_status e flags.new) }
+    ensures last { flags.new ≡ kept Logic (logic_value op a b) 0 size }
 {
     let value = bitwise(op, a, b);
     flags.set_from(FlagOp::Logic, value, 0, size);
@@ -45,6 +48,7 @@ fn binary(op: Op, size: Size, a: u32, b: u32, flags: &mut Flags) -> u32
     ensures bound { result < bound_of size }
     ensures status { (e : ℕ) → with_status e flags.new
         ≡ flags_after (binary op size a b (with_status e flags.old)).status (with_status e flags.old) (with_status e flags.new) }
+    ensures last { flags.new ≡ last_of_two op size a b flags.old }
 {
     match op {
         Op::Add => {
@@ -80,6 +84,7 @@ fn unary(op: Op, size: Size, a: u32, flags: &mut Flags) -> u32
     ensures bound { result < bound_of size }
     ensures status { (e : ℕ) → with_status e flags.new
         ≡ flags_after (unary op size a).status (with_status e flags.old) (with_status e flags.new) }
+    ensures last { flags.new ≡ last_of_one op size a flags.old }
 {
     match op {
         Op::Inc => {
@@ -106,6 +111,8 @@ pub(crate) fn combine(regs: &mut Regs, flags: &mut Flags, insn: &Insn)
     requires b { IsPlainOf insn.now.size insn.now.b }
     ensures plan { follow (whole regs.new flags.new)
         ≡ binary_plan insn.now (whole regs.old flags.old) (whole regs.new flags.new).eflags }
+    ensures last { flags.new ≡ last_of_two insn.now.op insn.now.size
+        (value_of (whole regs.old flags.old) insn.now.a) (value_of (whole regs.old flags.old) insn.now.b) flags.old }
     ensures kept { KeepsOther regs.old regs.new }
 {
     let b = value(regs, &insn.b, insn.size);
@@ -121,6 +128,8 @@ pub(crate) fn compare(regs: &Regs, flags: &mut Flags, insn: &Insn)
     requires b { IsPlainOf insn.now.size insn.now.b }
     ensures plan { follow (whole regs.now flags.new)
         ≡ compare_plan insn.now (whole regs.now flags.old) (whole regs.now flags.new).eflags }
+    ensures last { flags.new ≡ last_of_two insn.now.op insn.now.size
+        (value_of (whole regs.now flags.old) insn.now.a) (value_of (whole regs.now flags.old) insn.now.b) flags.old }
 {
     let b = value(regs, &insn.b, insn.size);
     let a = value(regs, &insn.a, insn.size);
@@ -133,6 +142,7 @@ pub(crate) fn change(regs: &mut Regs, flags: &mut Flags, insn: &Insn)
     requires { IsPlainOf insn.now.size insn.now.a }
     ensures plan { follow (whole regs.new flags.new)
         ≡ unary_plan insn.now (whole regs.old flags.old) (whole regs.new flags.new).eflags }
+    ensures last { flags.new ≡ last_of_one insn.now.op insn.now.size (value_of (whole regs.old flags.old) insn.now.a) flags.old }
     ensures kept { KeepsOther regs.old regs.new }
 {
     let a = value(regs, &insn.a, insn.size);
