@@ -13,7 +13,9 @@ ghost use Rattle.lazy_flags.specs.Keeper.{with_status, is_status_bit, operation_
 
 use crate::operation::FlagOp;
 use alu_ops::{add, dec, difference, inc, sub, sum};
-use mdl_num::{AF, CF, Flag, OF, PF, SF, ZF, bit, bound, half, is_even_parity, of_result, settle, with_bit};
+use mdl_num::{
+    AF, CF, Flag, OF, PF, SF, ZF, bit, bound, half, is_even_parity, of_result, settle, with_bit,
+};
 use mdl_state::Size;
 use std::marker::Model;
 
