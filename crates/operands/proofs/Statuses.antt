@@ -12,7 +12,7 @@ use Rattle.mdl_num.specs.Sums.{sum_status, difference_status, logic_status, incr
 use Rattle.mdl_num.specs.declared.status.Status.{Status}
 use Rattle.mdl_num.specs.declared.status.TheConstants.{CF, PF, AF, ZF, SF, OF}
 use Rattle.mdl_num.proofs.FlagLemmas.{bit_at-flags_after}
-use Rattle.lazy_flags.specs.Keeper.{with_status, kept}
+use Rattle.lazy_flags.specs.Keeper.{with_status, operation_status, kept}
 use Rattle.lazy_flags.specs.declared.operation.FlagOp.TheVariants.{Add, AddCarry, Sub, SubBorrow, Logic, Inc, Dec, Plain}
 use Rattle.lazy_flags.proofs.Packing.{copied_own, copied_other}
 use Rattle.lazy_flags.proofs.Kept.{kept_operation, kept_increment, kept_decrement, kept_number}
