@@ -35,8 +35,14 @@ kept_flag op a b size k h = sym (low_flag op a b size k (status_low k h))
 
 pub kept_packed : (op : FlagOp) (a b : ℕ) (size : Size) (e : ℕ) → with_status e (left op a b size) ≡ with_status e (kept op a b size)
 unfolding with_status
-kept_packed op a b size e = sym (rw (low_flag op a b size CF (omega arith), low_flag op a b size PF (omega arith), low_flag op a b size AF (omega arith),
-    low_flag op a b size ZF (omega arith), low_flag op a b size SF (omega arith), low_flag op a b size OF (omega arith)) refl)
+kept_packed op a b size e = sym (rw (
+  low_flag op a b size CF (omega arith),
+  low_flag op a b size PF (omega arith),
+  low_flag op a b size AF (omega arith),
+  low_flag op a b size ZF (omega arith),
+  low_flag op a b size SF (omega arith),
+  low_flag op a b size OF (omega arith),
+) refl)
 
 no_adjust : (s : Status) → s.adjust ≡ Undefined → bit_at (flags_after s 0 0) AF ≡ bit_at 0 AF
 unfolding flags_after
@@ -177,6 +183,9 @@ pub same_last : (op : FlagOp) (a b : ℕ) (size : Size) (op' : FlagOp) (a' b' : 
 unfolding kept
 same_last op a b size op' a' b' size' la lc e =
     let all = parts (operation_number op) (operation_number op') (size_number size) (size_number size') a b a' b' (left op a b size) (left op' a' b' size')
-    (operation_small op) (operation_small op') (size_small size) (size_small size') la lc (left_small op a b size) (left_small op' a' b' size') e in
-    (sym (operation_back op) ∙ ap (λ n. get_or operations n Plain) all.0 ∙ operation_back op', all.2, all.3,
-    sym (size_back size) ∙ ap (λ n. get_or (B1 ∷ B2 ∷ B4 ∷ []) n B1) all.1 ∙ size_back size')
+    (operation_small op) (operation_small op') (size_small size) (size_small size') la lc (left_small op a b size) (left_small op' a' b' size') e in (
+      sym (operation_back op) ∙ ap (λ n. get_or operations n Plain) all.0 ∙ operation_back op',
+      all.2,
+      all.3,
+      sym (size_back size) ∙ ap (λ n. get_or (B1 ∷ B2 ∷ B4 ∷ []) n B1) all.1 ∙ size_back size',
+    )

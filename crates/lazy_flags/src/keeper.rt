@@ -193,6 +193,55 @@ impl Flags {
 mod tests {
     use super::*;
 
+    /// The six flags, asked for one by one, at their places.
+    fn told(flags: &Flags) -> u32 {
+        let told = with_bit(0, CF, flags.get(CF));
+        let told = with_bit(told, PF, flags.get(PF));
+        let told = with_bit(told, AF, flags.get(AF));
+        let told = with_bit(told, ZF, flags.get(ZF));
+        let told = with_bit(told, SF, flags.get(SF));
+        with_bit(told, OF, flags.get(OF))
+    }
+
+    // Worked by hand from the manual, chapter 17. SETcc and ADC ask for one flag; PUSHF, LAHF, RCL and
+    // DAA take all six packed into EFLAGS, whose other bits are 602h.
+    #[test]
+    fn each_operation_is_seen_flag_by_flag_and_packed(rt: HostRuntime) {
+        let mut flags = Flags::unpack(0);
+        flags.set_from(FlagOp::Add, 0xff, 0x01, Size::B1);
+        assert!(rt; told(&flags) == 0x055 && flags.pack(0x602) == 0x657);
+        flags.set_from(FlagOp::AddCarry(true), 0x7fff, 0, Size::B2);
+        assert!(rt; told(&flags) == 0x894 && flags.pack(0x602) == 0xe96);
+        flags.set_from(FlagOp::Sub, 0, 1, Size::B4);
+        assert!(rt; told(&flags) == 0x095 && flags.pack(0x602) == 0x697);
+        flags.set_from(FlagOp::Sub, 0x80, 0x01, Size::B1);
+        assert!(rt; told(&flags) == 0x810 && flags.pack(0x602) == 0xe12);
+        flags.set_from(FlagOp::SubBorrow(true), 0x1234, 0x1233, Size::B2);
+        assert!(rt; told(&flags) == 0x044 && flags.pack(0x602) == 0x646);
+        flags.set_from(FlagOp::Logic, 0x81, 0, Size::B1);
+        assert!(rt; told(&flags) & !(1 << AF) == 0x084 && flags.pack(0x602) & !(1 << AF) == 0x686);
+        flags.set_from(FlagOp::Inc(true), 0x7f, 1, Size::B1);
+        assert!(rt; told(&flags) == 0x891 && flags.pack(0x602) == 0xe93);
+        flags.set_from(FlagOp::Inc(false), 0xffff_ffff, 1, Size::B4);
+        assert!(rt; told(&flags) == 0x054 && flags.pack(0x602) == 0x656);
+        flags.set_from(FlagOp::Dec(true), 1, 1, Size::B2);
+        assert!(rt; told(&flags) == 0x045 && flags.pack(0x602) == 0x647);
+        flags.set_from(FlagOp::Dec(false), 0x80, 1, Size::B1);
+        assert!(rt; told(&flags) == 0x810 && flags.pack(0x602) == 0xe12);
+        flags.set_from(FlagOp::Sub, 0, 0x80, Size::B1);
+        assert!(rt; told(&flags) == 0x881 && flags.pack(0x602) == 0xe83);
+    }
+
+    // FFh and 1 carry; 5 and 1 are 6, which has two 1s.
+    #[test]
+    fn inc_behind_add_keeps_the_carry(rt: HostRuntime) {
+        let mut flags = Flags::unpack(0);
+        flags.set_from(FlagOp::Add, 0xff, 0x01, Size::B1);
+        let carry = flags.get(CF);
+        flags.set_from(FlagOp::Inc(carry), 5, 1, Size::B4);
+        assert!(rt; told(&flags) == 0x005 && flags.pack(0x602) == 0x607);
+    }
+
     // Worked by hand, as the same sums are for `alu_ops`. The other bits of EFLAGS are 602h.
     #[test]
     fn packed_flags_are_those_of_the_last_operation(rt: HostRuntime) {
