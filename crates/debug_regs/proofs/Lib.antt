@@ -1,0 +1,3 @@
+pub mod Watching
+pub mod Overlaps
+pub mod Enabled

@@ -1,0 +1,3 @@
+pub mod Overlapping
+pub mod Asked
+pub mod Enabled
