@@ -1,2 +1,3 @@
+mod Arriving
 mod Chains
 pub mod Attempts

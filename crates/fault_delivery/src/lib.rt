@@ -7,9 +7,11 @@
 
 mod combining;
 mod deliveries;
+mod laws;
 
 pub use combining::{fault_cause, note_address};
 pub use deliveries::{Delivered, deliver};
+pub use laws::{a_delivery_is_some_choice, no_delivery_needs_a_fifth};
 pub use mdl_cpu::Cause;
 
 #[cfg(test)]
