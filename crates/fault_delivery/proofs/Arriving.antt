@@ -1,5 +1,5 @@
 -- A delivery comes to a handler, a task or shutdown, in every mode, where each page is served or faults.
-use Rattle.std.proofs.Common.{ℕ, zero, suc, ◌+◌, ◌<◌, ◌≤◌, Bool, [], ◌∷◌, arith}
+use Rattle.std.proofs.Common.{ℕ, zero, suc, ◌<◌, ◌≤◌, Bool, [], ◌∷◌, arith}
 use Rattle.std.specs.Prelude.{List, Option, Some, None, IfSome}
 use Rattle.mdl_state.specs.declared.Regs.{Regs}
 use Rattle.mdl_state.specs.declared.Fault.{Fault}

@@ -1,3 +1,4 @@
 mod Arriving
 mod Chains
 pub mod Attempts
+mod Restarts

@@ -11,7 +11,9 @@ mod laws;
 
 pub use combining::{fault_cause, note_address};
 pub use deliveries::{Delivered, deliver};
-pub use laws::{a_delivery_is_some_choice, no_delivery_needs_a_fifth};
+pub use laws::{
+    a_delivery_is_some_choice, a_refused_gate_leaves_memory, no_delivery_needs_a_fifth,
+};
 pub use mdl_cpu::Cause;
 
 #[cfg(test)]
