@@ -10,6 +10,7 @@ ghost use Rattle.mdl_cpu.specs.Addresses.{HasAddress};
 ghost use Rattle.mdl_cpu.specs.Segments.{has_protection};
 ghost use Rattle.mdl_cpu.specs.Steady.{Agree, IsSound, StaysSound};
 ghost use Rattle.mdl_cpu.specs.Deliveries.{KeepsWatch};
+ghost use Rattle.mdl_cpu.specs.Transfers.{IfSwitch};
 ghost use Rattle.mdl_cpu.specs.Switch.{left};
 ghost use Rattle.mdl_cpu.specs.declared.Outcome.TheVariants.{Done};
 ghost use Rattle.mdl_state.specs.declared.Regs.{Regs as Registers};
@@ -18,7 +19,7 @@ ghost use Rattle.mdl_effect.specs.FarEffects.{is_far, runs_far, names_task, far_
 ghost use Rattle.mdl_effect.specs.Kinds.{is_number, is_far_target};
 ghost use Rattle.mdl_effect.specs.Forms.{IsOf, IsFormed};
 ghost use Rattle.operands.specs.Whole.{ran};
-ghost use Rattle.exec_far.specs.Arrivals.{Arrives};
+ghost use Rattle.exec_far.specs.Arrivals.{Arrives, StaysInMode, IsOfEitherTask};
 ghost use Rattle.exec_far.specs.Transfers.{far_transferred};
 
 use crate::pointers::target;
@@ -73,6 +74,7 @@ fn call<L: Linear>(regs: &mut Regs, lin: &mut L, insn: &Insn, back: u32) -> Resu
     ensures run { (far_transferred result regs.new, L.seen lin.new)
         ≡ tried (by_pick L.pick) 0 (far_call_plan insn.now regs.old back) (L.seen lin.old) }
     ensures real { has_protection regs.old ≡ false → IfOk result (λ far. far.outcome ≡ Done) }
+    ensures switched { IfOk result (λ far. IfSwitch far.outcome (regs.new ≡ regs.old)) }
     ensures stays { StaysSound regs.old regs.new }
     ensures unchanged { OnErr result (regs.new ≡ regs.old) }
     ensures keeps { Keeps (L.seen lin.old) (L.seen lin.new) }
@@ -93,6 +95,7 @@ fn jump<L: Linear>(regs: &mut Regs, lin: &mut L, insn: &Insn) -> Result<Far, Fau
     ensures run { (far_transferred result regs.new, L.seen lin.new)
         ≡ tried (by_pick L.pick) 0 (far_jump_plan insn.now regs.old) (L.seen lin.old) }
     ensures real { has_protection regs.old ≡ false → IfOk result (λ far. far.outcome ≡ Done) }
+    ensures switched { IfOk result (λ far. IfSwitch far.outcome (regs.new ≡ regs.old)) }
     ensures stays { StaysSound regs.old regs.new }
     ensures unchanged { OnErr result (regs.new ≡ regs.old) }
     ensures keeps { Keeps (L.seen lin.old) (L.seen lin.new) }
@@ -124,6 +127,7 @@ fn return_to<L: Linear>(regs: &mut Regs, lin: &mut L, insn: &Insn) -> Result<Far
     ensures run { (far_transferred result regs.new, L.seen lin.new)
         ≡ tried (by_pick L.pick) 0 (far_return_plan insn.now regs.old) (L.seen lin.old) }
     ensures real { has_protection regs.old ≡ false → IfOk result (λ far. far.outcome ≡ Done) }
+    ensures switched { IfOk result (λ far. IfSwitch far.outcome (regs.new ≡ regs.old)) }
     ensures stays { StaysSound regs.old regs.new }
     ensures unchanged { OnErr result (regs.new ≡ regs.old) }
     ensures keeps { Keeps (L.seen lin.old) (L.seen lin.new) }
@@ -142,6 +146,7 @@ fn return_from_interrupt<L: Linear>(regs: &mut Regs, lin: &mut L, insn: &Insn) -
     ensures run { (far_transferred result regs.new, L.seen lin.new)
         ≡ tried (by_pick L.pick) 0 (iret_plan insn.now regs.old) (L.seen lin.old) }
     ensures real { has_protection regs.old ≡ false → IfOk result (λ far. far.outcome ≡ Done) }
+    ensures switched { IfOk result (λ far. IfSwitch far.outcome (regs.new ≡ regs.old)) }
     ensures stays { StaysSound regs.old regs.new }
     ensures unchanged { OnErr result (regs.new ≡ regs.old) }
     ensures keeps { Keeps (L.seen lin.old) (L.seen lin.new) }
@@ -164,6 +169,7 @@ fn transfer<L: Linear>(regs: &mut Regs, lin: &mut L, insn: &Insn, back: u32) -> 
     ensures run { (far_transferred result regs.new, L.seen lin.new)
         ≡ tried (by_pick L.pick) 0 (far_transfer insn.now regs.old back) (L.seen lin.old) }
     ensures real { has_protection regs.old ≡ false → IfOk result (λ far. far.outcome ≡ Done) }
+    ensures switched { IfOk result (λ far. IfSwitch far.outcome (regs.new ≡ regs.old)) }
     ensures stays { StaysSound regs.old regs.new }
     ensures unchanged { OnErr result (regs.new ≡ regs.old) }
     ensures keeps { Keeps (L.seen lin.old) (L.seen lin.new) }
@@ -195,6 +201,8 @@ fn run_formed<L: Linear>(
         ≡ far_run (by_pick L.pick) insn.now regs.old back (L.seen lin.old) }
     ensures sound { IsSound regs.new }
     ensures tables { Agree regs.new (L.seen lin.new) }
+    ensures real { has_protection regs.old ≡ false → StaysInMode regs.old result regs.new }
+    ensures unchanged { OnErr result (IsOfEitherTask regs.old regs.new) }
     ensures keeps { KeepsPhysical (L.seen lin.old).physical (L.seen lin.new).physical }
     ensures held { (L.seen lin.new).held ≡ [] }
     ensures follows { IfOk result Arrives }
@@ -232,6 +240,8 @@ pub fn run<L: Linear>(regs: &mut Regs, lin: &mut L, insn: &Insn, back: u32) -> R
         ≡ far_run (by_pick L.pick) insn.now regs.old back (L.seen lin.old) }
     ensures sound { IsSound regs.new }
     ensures tables { Agree regs.new (L.seen lin.new) }
+    ensures real { has_protection regs.old ≡ false → StaysInMode regs.old result regs.new }
+    ensures unchanged { OnErr result (IsOfEitherTask regs.old regs.new) }
     ensures keeps { KeepsPhysical (L.seen lin.old).physical (L.seen lin.new).physical }
     ensures watch { KeepsWatch (L.seen lin.old) (L.seen lin.new) }
     ensures held { (L.seen lin.new).held ≡ [] }

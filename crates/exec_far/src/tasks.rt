@@ -1,6 +1,6 @@
 //! The switch to the task that a transfer leads to.
 
-ghost use Rattle.std.specs.Prelude.{◌≡◌, IfOk, [], true};
+ghost use Rattle.std.specs.Prelude.{◌≡◌, IfOk, OnErr, [], true};
 ghost use Rattle.mdl_state.specs.Serving.{by_pick};
 ghost use Rattle.mdl_state.specs.Accesses.{KeepsPhysical};
 ghost use Rattle.mdl_cpu.specs.Segments.{has_protection};
@@ -8,7 +8,7 @@ ghost use Rattle.mdl_cpu.specs.Steady.{Agree, IsSound};
 ghost use Rattle.mdl_cpu.specs.Switch.{left, switch};
 ghost use Rattle.mdl_effect.specs.FarEffects.{reason_of, far_request, switching};
 ghost use Rattle.operands.specs.Whole.{ran};
-ghost use Rattle.exec_far.specs.Arrivals.{Arrives};
+ghost use Rattle.exec_far.specs.Arrivals.{Arrives, IsOfEitherTask};
 
 use mdl_cpu::{Reason, Request, Switched};
 use mdl_insn::Op;
@@ -57,6 +57,7 @@ pub(crate) fn enter_task<L: Linear>(
         ≡ switching (switch (by_pick L.pick) regs.old request (L.seen lin.old)) }
     ensures sound { IsSound regs.new }
     ensures tables { Agree regs.new (L.seen lin.new) }
+    ensures unchanged { OnErr result (IsOfEitherTask regs.old regs.new) }
     ensures keeps { KeepsPhysical (L.seen lin.old).physical (L.seen lin.new).physical }
     ensures held { (L.seen lin.new).held ≡ [] }
     ensures follows { IfOk result Arrives }
