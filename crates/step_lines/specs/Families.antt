@@ -4,21 +4,18 @@ use Rattle.mdl_insn.specs.declared.instruction.Insn.{Insn}
 use Rattle.mdl_effect.specs.DataEffects.{runs_data}
 use Rattle.mdl_effect.specs.FlowEffects.{runs_flow}
 use Rattle.mdl_effect.specs.StringEffects.{runs_string}
-use Rattle.mdl_effect.specs.FarEffects.{runs_far}
 use Rattle.mdl_effect.specs.SystemEffects.{runs_system}
 use Rattle.step_lines.specs.declared.steps.Family.{Family}
-use Rattle.step_lines.specs.declared.steps.Family.TheVariants.{Data, Flow, Strings, Far, System}
+use Rattle.step_lines.specs.declared.steps.Family.TheVariants.{Data, Flow, Strings, System}
 
 -- a crate runs an instruction
 abbrev pub Belongs : Family → Insn → Type 0
 Belongs Data insn = IsTrue (runs_data insn)
 Belongs Flow insn = IsTrue (runs_flow insn)
 Belongs Strings insn = IsTrue (runs_string insn.op)
-Belongs Far insn = IsTrue (runs_far insn)
 Belongs System insn = IsTrue (runs_system insn)
 
 -- the crate runs its instructions in real mode alone
 abbrev pub is_of_real_mode : Family → Bool
 is_of_real_mode Data = true
-is_of_real_mode Far = true
 is_of_real_mode _ = false

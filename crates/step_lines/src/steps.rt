@@ -1,19 +1,22 @@
 //! One step, by the crate that runs its instruction.
 
-ghost use Rattle.std.specs.Prelude.{◌≡◌, ℕ, List, [], Bool, true, false, IsTrue, IfSome, IfOk, OnOk, OnErr};
+ghost use Rattle.std.specs.Prelude.{◌≡◌, ◌<◌, ℕ, List, [], Bool, true, false, IsTrue, IfSome, IfOk, OnOk, OnErr};
+ghost use Rattle.std.specs.Bool.{OnTrue};
 ghost use Rattle.mdl_insn.specs.Spelling.{Spelt};
 ghost use Rattle.mdl_state.specs.Serving.{by_pick};
 ghost use Rattle.mdl_state.specs.Accesses.{committed, discarded};
 ghost use Rattle.mdl_state.specs.Attempt.{tried};
 ghost use Rattle.mem_iface.specs.Rules.{rules_of};
 ghost use Rattle.mdl_cpu.specs.Segments.{has_protection};
-ghost use Rattle.mdl_effect.specs.FarEffects.{runs_far, far_effect};
+ghost use Rattle.mdl_cpu.specs.SystemFlags.{AreFlags};
+ghost use Rattle.mdl_state.specs.Bytes.{bit};
+ghost use Rattle.mdl_effect.specs.FarEffects.{runs_far};
 ghost use Rattle.mdl_effect.specs.SystemEffects.{runs_system, system_effect};
 ghost use Rattle.mdl_effect.specs.Operands.{PortUse};
 ghost use Rattle.mdl_effect.specs.Ports.{Accesses};
 ghost use Rattle.mdl_step.specs.Effects.{effect};
 ghost use Rattle.mdl_step.specs.Step.{landed};
-ghost use Rattle.operands.specs.Whole.{whole, ran, ran_at};
+ghost use Rattle.operands.specs.Whole.{whole, ran_at};
 ghost use Rattle.step_lines.specs.Families.{Belongs, is_of_real_mode};
 
 use exec_data::runs_data;
@@ -34,17 +37,16 @@ pub const ROOM: u16 = 256;
 /// PE of CR0.
 pub const PROTECTION: u32 = 1;
 
-/// The instructions of one crate.
+/// The instructions of one crate, but the far ones.
 #[derive(Clone, Copy)]
 enum Family {
     Data,
     Flow,
     Strings,
-    Far,
     System,
 }
 
-/// The crate that runs an instruction.
+/// The crate that runs an instruction that is not a far one.
 fn family_of(insn: &Insn) -> Option<Family>
     ensures { IfSome result (λ family. Belongs family insn.now) }
 {
@@ -57,67 +59,77 @@ fn family_of(insn: &Insn) -> Option<Family>
     if runs_string(insn.op) {
         return Some(Family::Strings);
     }
-    if runs_far(insn) {
-        return Some(Family::Far);
-    }
     if runs_system(insn) {
         return Some(Family::System);
     }
     None
 }
 
-/// The instruction at the front of these bytes, its length, and the crate that runs it; or the fault
-/// of bytes that are none.
-fn instruction_of(code: &[u8], big: bool) -> Option<Result<(Insn, u8, Family), Fault>>
-    ensures spelt { IfSome result (λ found. IfOk found (λ x. (bytes : List ℕ) × (size : Bool) × Spelt bytes size x.0)) }
-    ensures family { IfSome result (λ found. IfOk found (λ x. Belongs x.2 x.0)) }
+/// The instruction at the front of these bytes and its length, or the fault of bytes that are none.
+fn instruction_of(code: &[u8], big: bool) -> Option<Result<(Insn, u8), Fault>>
+    ensures { IfSome result (λ found. IfOk found (λ x. (bytes : List ℕ) × (size : Bool) × Spelt bytes size x.0)) }
 {
     match decode_slice(code, big) {
-        Ok((insn, count)) => match family_of(&insn) {
-            Some(family) => Some(Ok((insn, count, family))),
-            None => None,
-        },
+        Ok((insn, count)) => Some(Ok((insn, count))),
         Err(SliceError::Undefined) => Some(Err(no_such())),
         Err(SliceError::TooLong) => Some(Err(general_protection(0))),
         Err(SliceError::Short) => None,
     }
 }
 
-/// Data and far instructions run in real mode. The others run in protected mode where code and stack are
+/// Data instructions run in real mode. The others run in protected mode where code and stack are
 /// of 32 bits; else those of the system and of strings run where CR0 says, and those of flow in real mode.
 fn set_mode(regs: &mut Regs, family: Family, big: bool)
     ensures { is_of_real_mode family ≡ true → has_protection regs.new ≡ false }
 {
     regs.cr0 = match family {
-        Family::Data | Family::Far => 0,
+        Family::Data => 0,
         Family::Flow => { if big { PROTECTION } else { 0 } }
         Family::Strings | Family::System => { if big { PROTECTION } else { regs.cr0 } }
     };
 }
 
-/// A far instruction, which has EFLAGS whole.
-#[tactic(auto, using(crate::proofs::Packed::packed))]
+/// Whether a bit is 1.
+fn has(number: u32, place: u8) -> bool
+    requires { place < 32 }
+    ensures { result ≡ bit number place }
+{
+    (number >> place) & 1 == 1
+}
+
+/// Whether the bits of EFLAGS that are no flags are as they always are, and VM is 0.
+fn are_flags(eflags: u32) -> bool
+    ensures flags { OnTrue result (AreFlags eflags) }
+    ensures real { OnTrue result (bit eflags 17 ≡ false) }
+{
+    has(eflags, 1)
+        && !has(eflags, 3)
+        && !has(eflags, 5)
+        && !has(eflags, 15)
+        && !has(eflags, 17)
+        && eflags < 0x40000
+}
+
+/// A far instruction, in real mode and all of it placed; nothing where EFLAGS has bits that real mode does
+/// not have.
 fn run_far<L: Linear>(
     regs: &mut Regs,
-    flags: &mut Flags,
     lin: &mut L,
     insn: &Insn,
     back: u32,
-) -> Result<Next, Fault>
+) -> Option<Result<Next, Fault>>
     requires spelt { (bytes : List ℕ) × (big : Bool) × Spelt bytes big insn.now }
     requires runs { IsTrue (runs_far insn.now) }
-    requires mode { has_protection regs.old ≡ false }
     requires held { (L.seen lin.old).held ≡ [] }
-    ensures run { (ran result (whole regs.new flags.new), L.seen lin.new)
-        ≡ tried (by_pick L.pick) 0 (far_effect insn.now (whole regs.old flags.old) back) (L.seen lin.old) }
-    ensures unchanged { OnErr result ((regs.new ≡ regs.old) × (flags.new ≡ flags.old)) }
 {
-    let mut packed = *regs;
-    packed.eflags = flags.pack(regs.eflags);
-    let next = exec_far::run(&mut packed, lin, insn, back)?;
-    *flags = Flags::unpack(packed.eflags);
-    *regs = packed;
-    Ok(next)
+    if !are_flags(regs.eflags) {
+        return None;
+    }
+    regs.cr0 = 0;
+    regs.cpl = 0;
+    lin.set_paging(false);
+    lin.load_cr3(regs.cr3);
+    Some(exec_far::run(regs, lin, insn, back))
 }
 
 /// An instruction of the system, which has EFLAGS whole.
@@ -170,7 +182,6 @@ fn execute<L: Linear, P: Ports>(
         Family::Data => exec_data::run(regs, flags, lin, insn, back),
         Family::Flow => exec_flow::run(regs, flags, lin, insn, back),
         Family::Strings => string_ops::run(regs, flags, lin, ports, insn),
-        Family::Far => run_far(regs, flags, lin, insn, back),
         Family::System => run_system(regs, flags, lin, ports, insn, back),
     }
 }
@@ -203,9 +214,29 @@ pub struct Stepped {
     pub back: u32,
 }
 
+/// An instruction that is not a far one, placed or dropped; nothing where no crate runs it.
+fn run_near<L: Linear>(
+    regs: &mut Regs,
+    lin: &mut L,
+    insn: &Insn,
+    big: bool,
+    back: u32,
+) -> Option<Result<Next, Fault>>
+    requires spelt { (bytes : List ℕ) × (big : Bool) × Spelt bytes big insn.now }
+    requires held { (L.seen lin.old).held ≡ [] }
+{
+    let family = family_of(insn)?;
+    set_mode(regs, family, big);
+    let mut flags = Flags::unpack(regs.eflags);
+    let ran = execute(regs, &mut flags, lin, &mut NoPorts, insn, family, back);
+    finish(lin, &ran);
+    regs.eflags = flags.pack(regs.eflags);
+    Some(ran)
+}
+
 /// One step of the instruction at the front of these bytes; nothing where no crate runs it.
 pub fn step<L: Linear>(regs: &mut Regs, lin: &mut L, code: &[u8], big: bool) -> Option<Stepped> {
-    let (insn, count, family) = match instruction_of(code, big)? {
+    let (insn, count) = match instruction_of(code, big)? {
         Ok(found) => found,
         Err(fault) => {
             let back = regs.eip;
@@ -218,14 +249,14 @@ pub fn step<L: Linear>(regs: &mut Regs, lin: &mut L, code: &[u8], big: bool) -> 
     if lin.room() < ROOM {
         return None;
     }
-    set_mode(regs, family, big);
     let back = regs.eip.wrapping_add(count as u32);
-    let mut flags = Flags::unpack(regs.eflags);
-    let ran = execute(regs, &mut flags, lin, &mut NoPorts, &insn, family, back);
+    let ran = if runs_far(&insn) {
+        run_far(regs, lin, &insn, back)?
+    } else {
+        run_near(regs, lin, &insn, big, back)?
+    };
     if let Ok(next) = ran {
         land(regs, next, back);
     }
-    finish(lin, &ran);
-    regs.eflags = flags.pack(regs.eflags);
     Some(Stepped { ran, back })
 }

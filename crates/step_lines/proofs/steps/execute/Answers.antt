@@ -9,6 +9,3 @@ returns-in-Data-clause-run g c = (0, NoPort, refl, search (rules, effects, no_po
 
 pub returns-in-Flow-clause-run : goal.returns-in-Flow-clause-run
 returns-in-Flow-clause-run g c = (0, NoPort, refl, search (rules, effects, no_port))
-
-pub returns-in-Far-clause-run : goal.returns-in-Far-clause-run
-returns-in-Far-clause-run g c = (0, NoPort, refl, search (rules, effects, no_port))
