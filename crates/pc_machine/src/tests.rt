@@ -147,10 +147,10 @@ fn a_reset_puts_chips_and_processor_at_boot_and_leaves_ram(rt: HostRuntime) -> R
     Ok(())
 }
 
-// MOV EAX,1; MOV CR0,EAX: with PE set the next step is not built.
+// MOV EAX,1; MOV DR7,EAX: with a breakpoint enabled the next step is not built.
 #[test]
 fn a_run_stops_where_the_next_step_is_not_built(rt: HostRuntime) -> Result<(), Fail> {
-    let mut pc = machine(rt.alloc(), &[0x66, 0xB8, 1, 0, 0, 0, 0x0F, 0x22, 0xC0])?;
+    let mut pc = machine(rt.alloc(), &[0x66, 0xB8, 1, 0, 0, 0, 0x0F, 0x23, 0xF8])?;
     let events = [
         Event {
             at: 3,
@@ -164,6 +164,6 @@ fn a_run_stops_where_the_next_step_is_not_built(rt: HostRuntime) -> Result<(), F
     assert_eq!(rt; pc.run(&events, 10), Err(Unbuilt { applied: 1 }));
     assert_eq!(rt; pc.steps(), 3);
     assert!(rt; !pc.step());
-    assert_eq!(rt; pc.regs().cr0, 1);
+    assert_eq!(rt; pc.regs().dr7, 1);
     Ok(())
 }
