@@ -14,7 +14,7 @@ use Rattle.mdl_state.specs.Accesses.{with_a20}
 use Rattle.mdl_num.specs.Flags.{with_bit}
 use Rattle.mdl_num.proofs.Places.{bit_at-with_bit_other, with_bit-lt}
 use Rattle.mdl_cpu.specs.SystemFlags.{RF}
-use Rattle.mdl_cpu.specs.Steady.{Steady, IsSound, steady_sound}
+use Rattle.mdl_cpu.specs.Steady.{Steady, IsSound, steady_sound, steady_agrees}
 use Rattle.mdl_insn.specs.declared.mnemonics.Op.{Op}
 use Rattle.mdl_step.specs.Delivering.{BT, arrived}
 use Rattle.mdl_step.specs.Step.{keeps_resume, landed, resumed}
@@ -53,15 +53,18 @@ real_sound r control flags level = record {
 -- the registers after a reset, over plain memory
 pub reset_plain : (r : Regs) (f : ℕ) (m : Mem) → r ≡ reset_regs → f ≡ kept Plain r.eflags 0 B4 → IsPlain m → IsReady (whole r f) m
 reset_plain r f m is unpacked plain = subst (λ (q : Regs). IsReady q m) (sym (ap (whole r) unpacked ∙ whole_unpacked r ∙ is))
-    (record { sound = real_sound reset_regs refl refl refl; paging = λ _. plain.paging; held = plain.held; served = plain.served; watch = plain.watch; hits = plain.hits })
+    (record { sound = real_sound reset_regs refl refl refl; tables = record { paging = plain.paging; cr3 = plain.cr3 }; quiet = plain.quiet })
 
 pub reset_ready : (r q : Regs) (f : ℕ) (on : Bool) (m n : Mem) → r ≡ reset_regs → f ≡ kept Plain r.eflags 0 B4 → IsReady q m → n ≡ with_a20 on (record m { paging = false; cr3 = 0; cache = empty }) → IsReady (whole r f) n
 reset_ready r q f on m n is unpacked ready same = reset_plain r f n is unpacked (record {
   paging = ap (λ (k : Mem). k.paging) same;
-  held = ap (λ (k : Mem). k.held) same ∙ ready.held;
-  served = ap (λ (k : Mem). k.served) same ∙ ready.served;
-  watch = ap (λ (k : Mem). k.watch) same ∙ ready.watch;
-  hits = ap (λ (k : Mem). k.hits) same ∙ ready.hits;
+  cr3 = ap (λ (k : Mem). k.cr3) same;
+  quiet = record {
+    held = ap (λ (k : Mem). k.held) same ∙ ready.quiet.held;
+    served = ap (λ (k : Mem). k.served) same ∙ ready.quiet.served;
+    watch = ap (λ (k : Mem). k.watch) same ∙ ready.quiet.watch;
+    hits = ap (λ (k : Mem). k.hits) same ∙ ready.quiet.hits;
+  };
 })
 
 -- ---- an instruction
@@ -102,14 +105,7 @@ either_stays true r = stays r
 either_stays false r = clear_stays r
 
 steady_ready : (r q : Regs) (m : Mem) → Steady r q → IsReady r m → IsReady q m
-steady_ready r q m kept ready = record {
-  sound = steady_sound r q kept ready.sound;
-  paging = λ real. ready.paging (ap (λ (c : ℕ). bit c 0) (sym kept.cr0) ∙ real);
-  held = ready.held;
-  served = ready.served;
-  watch = ready.watch;
-  hits = ready.hits;
-}
+steady_ready r q m kept ready = record { sound = steady_sound r q kept ready.sound; tables = steady_agrees r q m kept ready.tables; quiet = ready.quiet }
 
 pub landed_ready : (op : Op) (after : Next) (r : Regs) (back : ℕ) (m : Mem) → IsReady r m → IsReady (resumed op after (landed after r back)) m
 landed_ready op after r back m ready = steady_ready (landed after r back) _ m (either_stays (keeps_resume op after) (landed after r back)) (steady_ready r (landed after r back) m (landed_stays after r back) ready)

@@ -6,6 +6,7 @@ pub mod Fetched
 pub mod Settled
 pub mod Resumed
 pub mod Families
+pub mod Pending
 pub mod Turns
 pub mod Arriving
 pub mod Eights

@@ -6,7 +6,6 @@ use Rattle.mdl_state.specs.declared.Latches.{Latches}
 use Rattle.mdl_state.specs.Bytes.{bit}
 use Rattle.mdl_cpu.specs.SystemFlags.{TF, IF}
 use Rattle.mdl_step.specs.Boundary.{takes_line}
-use Rattle.mdl_step.specs.Step.{is_covered}
 use Rattle.lazy_flags.specs.Keeper.{with_status}
 use Rattle.operands.specs.Whole.{whole}
 use Rattle.operands.proofs.Statuses.{other_bit}
@@ -20,10 +19,10 @@ interrupt_bit e f = other_bit e f IF (omega arith) (omega arith) (omega arith) (
 pub whole_interrupts : (r : Regs) (f : ℕ) → bit (with_status r.eflags f) IF ≡ bit r.eflags IF
 whole_interrupts r f = rw (interrupt_bit r.eflags f) refl
 
-pub whole_covered : (r : Regs) (f : ℕ) → is_covered (whole r f) ≡ is_covered r
-whole_covered r f = rw (trap_bit r.eflags f) refl
+pub whole_traced : (r : Regs) (f : ℕ) → bit (with_status r.eflags f) TF ≡ bit r.eflags TF
+whole_traced r f = rw (trap_bit r.eflags f) refl
 
 pub whole_line : (wants : Bool) (r : Regs) (f : ℕ) (latches : Latches) → takes_line wants (whole r f) latches ≡ takes_line wants r latches
 whole_line wants r f latches = rw (interrupt_bit r.eflags f) refl
 
-pub ruleset modes = (whole_covered, whole_line)
+pub ruleset modes = (whole_traced, whole_line)

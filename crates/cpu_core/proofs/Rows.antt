@@ -67,7 +67,7 @@ module _ {B : Type 0} (rules : Rules B) (m : Machine B) (row : Boundary)
   -- it is what is told where they are covered
   pub covered_row : is_covered m.state.core.regs ≡ true → row_of rules m ≡ row
   unfolding boundary
-  covered_row e = ap (λ (hits : ℕ). boundary_rows m.state.core.activity (rules.wants m.board) hits m.state.core.regs m.state.core.latches) (no_hits m.state.core.regs _ (covered m.state.core.regs e).breakpoints) ∙ sym told
+  covered_row e = ap (λ (hits : ℕ). boundary_rows m.state.core.activity (rules.wants m.board) hits m.state.core.regs m.state.core.latches) (no_hits m.state.core.regs _ (covered m.state.core.regs e)) ∙ sym told
 
 -- an instruction is executed where the processor runs, nothing waits, and no interrupt is wanted that IF lets in
 pub usual_row : {B : Type 0} (rules : Rules B) (m : Machine B) → m.state.core.activity ≡ Running → takes_trap m.state.core.latches ≡ false → takes_nmi m.state.core.latches ≡ false

@@ -1,119 +1,151 @@
--- What ends an attempt, a step or a delivery leaves, while paging is off.
-use Rattle.std.proofs.Common.{◌≡◌, ℕ, zero, suc, ◌==◌, Bool, true, false, List, [], refl, sym, ap, subst, ◌∙◌, Option, Some, None}
-use Rattle.std.specs.Prelude.{⊤, if◌then◌else◌}
+-- What an instruction and a delivery leave of memory, and that it stays ready.
+use Rattle.std.proofs.Common.{◌≡◌, ℕ, ◌==◌, Bool, true, false, [], refl, sym, ap, subst, ◌∙◌}
+use Rattle.std.specs.Prelude.{if◌then◌else◌, Result, Ok, Err}
 use Rattle.std.specs.FinMap.{empty}
 use Rattle.mdl_state.specs.declared.Regs.{Regs}
 use Rattle.mdl_state.specs.declared.Fault.{Fault}
 use Rattle.mdl_state.specs.State.{Mem}
-use Rattle.mdl_state.specs.Serving.{Serve, Outcome, Passed, Failed, NoStep, handled}
-use Rattle.mdl_state.specs.Accesses.{committed, discarded}
-use Rattle.mdl_state.specs.Attempt.{Plan, tried, finished}
-use Rattle.mdl_cpu.specs.declared.Cause.{Cause}
-use Rattle.mdl_cpu.specs.Segments.{has_protection}
-use Rattle.mdl_cpu.specs.Steady.{IsSound, has_paging}
-use Rattle.mdl_cpu.specs.Causes.{fault_cause, with_address}
-use Rattle.mdl_cpu.specs.Gates.{gate_plan, with_ext}
-use Rattle.mdl_cpu.specs.DoubleFault.{combine}
-use Rattle.mdl_cpu.specs.Delivery.{Arrival, delivered_once, followed_by, deliveries, deliver}
+use Rattle.mdl_state.specs.Accesses.{Keeps, all_placed, committed, discarded}
+use Rattle.mdl_state.specs.Serving.{Pick, Outcome, Passed, Failed, NoStep, by_pick}
+use Rattle.mdl_state.specs.Attempt.{finished, tried}
+use Rattle.mdl_cpu.specs.declared.Outcome as way
+use Rattle.mdl_cpu.specs.declared.Outcome.TheVariants as outcome
+use Rattle.mdl_cpu.specs.declared.Switched.{Switched}
+use Rattle.mdl_cpu.specs.declared.Switched.TheVariants as switched
+use Rattle.mdl_cpu.specs.Deliveries.{KeepsWatch}
+use Rattle.mdl_cpu.specs.Steady.{Agree, IsSound, has_paging}
+use Rattle.mdl_cpu.specs.Switch.{Left, switch}
+use Rattle.mdl_cpu.proofs.ServingLaws.{tried_keeps, then_kept}
+use Rattle.mdl_cpu.proofs.KeptLaws.{switch_keeps}
+use Rattle.mdl_insn.specs.declared.instruction.Insn.{Insn}
 use Rattle.mdl_insn.specs.declared.instruction.Operand.{Operand}
 use Rattle.mdl_insn.specs.declared.instruction.Operand.TheVariants.{Creg}
 use Rattle.mdl_insn.specs.declared.mnemonics.Op.{Op}
 use Rattle.mdl_insn.specs.declared.mnemonics.Op.TheVariants as ops
+use Rattle.mdl_effect.specs.Operands.{After}
+use Rattle.mdl_effect.specs.FarEffects.{FarTransfer, runs_far, far_transfer, far_request, far_run, behind_transfer, by_outcome, in_either_task}
+use Rattle.mdl_effect.specs.Ways.{PagesBy, PagesAs}
+use Rattle.mdl_step.specs.Effects.{effect, run_whole, in_own_task}
 use Rattle.mdl_step.specs.Step.{with_control, remapped}
-use Rattle.mdl_step.proofs.Unpaged.{only_held, none_met}
-use Rattle.cpu_core.specs.Plain.{IsPlain, IsReady}
+use Rattle.cpu_core.specs.Plain.{IsQuiet, IsReady}
+use Rattle.cpu_core.specs.Ran.{ended, settled}
+use Rattle.cpu_core.specs.declared.dispatch.Ran.{Ran}
 
-module _ {A : Type 0} (serve : Serve) (given : ℕ) (plan : Plan A) (m n : Mem) (o : Outcome A) (plain : IsPlain m) (e : ◌≡◌ {A = Outcome A × Mem} (o, n) (tried serve given plan m)) where
-  there : n ≡ (tried serve given plan m).1
-  there = ap (λ (w : Outcome A × Mem). w.1) e
+-- ---- what stands beside the contents of memory
 
-  -- nothing is met
-  unmet : n.hits ≡ 0
-  unmet = ap (λ (k : Mem). k.hits) there ∙ none_met serve given plan m plain.paging plain.watch ∙ plain.hits
+finished_keeps : {A : Type 0} (m : Mem) (w : Outcome A × Mem) → KeepsWatch m w.1 → KeepsWatch m (finished w).1
+unfolding committed discarded
+finished_keeps m (Passed x, n) h = record { served = h.served; watch = h.watch; hits = h.hits }
+finished_keeps m (Failed fault, n) h = record { served = h.served; watch = h.watch; hits = h.hits }
+finished_keeps m (NoStep, n) h = h
 
-  -- only what is held changes
-  only : n ≡ record m { held = n.held }
-  only = there ∙ only_held serve given plan m plain.paging ∙ ap (λ (k : Mem). record m { held = k.held; hits = k.hits }) (sym there)
-      ∙ ap (λ (h : ℕ). record m { held = n.held; hits = h }) (unmet ∙ sym plain.hits)
+either_keeps : (o : Outcome Switched) (r : Regs) (m n : Mem) → KeepsWatch m n → KeepsWatch m (in_either_task o r n).1
+either_keeps (Passed (switched.Done trap)) r m n h = h
+either_keeps (Passed (switched.OldFault fault)) r m n h = h
+either_keeps (Passed (switched.NewFault fault)) r m n h = h
+either_keeps (Failed fault) r m n h = h
+either_keeps NoStep r m n h = h
 
-  -- what is dropped leaves memory as it was
-  pub dropped : discarded n ≡ m
-  unfolding discarded
-  dropped = ap (λ (k : Mem). record k { held = [] }) only ∙ ap (λ (h : List (ℕ × ℕ)). record m { held = h }) (sym plain.held)
+module _ (pick : Pick) (insn : Insn) (r : Regs) (back : ℕ) where
+  outcome_keeps : (o : way.Outcome) (f : FarTransfer) (m : Mem) → KeepsWatch m (by_outcome o (by_pick pick) insn.op f back m).1
+  outcome_keeps outcome.Done f m = record { served = refl; watch = refl; hits = λ _. refl }
+  outcome_keeps (outcome.Switch task) f m = let w = switch (by_pick pick) f.transfer.regs (far_request insn.op task f.direct back) m in
+      either_keeps w.0.outcome w.0.regs m w.1 (switch_keeps pick f.transfer.regs (far_request insn.op task f.direct back) m)
 
-  -- what is placed leaves it plain
-  pub placed : IsPlain (committed n)
-  unfolding committed
-  placed = record {
-    paging = ap (λ (k : Mem). k.paging) only ∙ plain.paging;
-    held = refl;
-    served = ap (λ (k : Mem). k.served) only ∙ plain.served;
-    watch = ap (λ (k : Mem). k.watch) only ∙ plain.watch;
-    hits = unmet;
-  }
+  transfer_keeps : (m : Mem) (w : Outcome FarTransfer × Mem) → KeepsWatch m w.1 → KeepsWatch m (behind_transfer (by_pick pick) insn.op r back w).1
+  transfer_keeps m (Passed f, n) h = then_kept h (outcome_keeps f.transfer.outcome f n)
+  transfer_keeps m (Failed fault, n) h = h
+  transfer_keeps m (NoStep, n) h = h
 
--- ---- deliveries
+  far_keeps : (m : Mem) → KeepsWatch m (far_run (by_pick pick) insn r back m).1
+  unfolding far_run
+  far_keeps m = transfer_keeps m _ (finished_keeps m (tried (by_pick pick) 0 (far_transfer insn r back) m) (tried_keeps pick 0 (far_transfer insn r back) m))
 
--- what comes of a part leaves memory plain, if it is a step
-abbrev IfStep : {A : Type 0} → Outcome A × Mem → Type 0
-IfStep (Passed x, m) = IsPlain m
-IfStep (Failed fault, m) = IsPlain m
-IfStep (NoStep, m) = ⊤
+  inside_keeps : (given free : ℕ) (m : Mem) → KeepsWatch m (in_own_task r (finished (tried (by_pick pick) given (effect insn r back free) m))).1
+  inside_keeps given free m = finished_keeps m (tried (by_pick pick) given (effect insn r back free) m) (tried_keeps pick given (effect insn r back free) m)
 
-once_plain : (serve : Serve) (cause : Cause) (r : Regs) (m : Mem) → IsPlain m → IfStep (delivered_once serve cause r m)
-unfolding delivered_once
-once_plain serve cause r m plain = by_outcome (tried serve 0 (gate_plan cause r) m) refl
+  -- an instruction leaves it
+  whole_keeps : (given free : ℕ) (m : Mem) → KeepsWatch m (run_whole (by_pick pick) insn r back given free m).1
+  whole_keeps given free m = by_family (runs_far insn)
+    where
+      by_family : (far : Bool) → KeepsWatch m (if far then far_run (by_pick pick) insn r back m else in_own_task r (finished (tried (by_pick pick) given (effect insn r back free) m))).1
+      by_family true = far_keeps m
+      by_family false = inside_keeps given free m
+
+pub still_quiet : (m n : Mem) → IsQuiet m → KeepsWatch m n → n.held ≡ [] → IsQuiet n
+still_quiet m n quiet keeps none = record {
+  held = none;
+  served = keeps.served ∙ quiet.served;
+  watch = keeps.watch ∙ quiet.watch;
+  hits = keeps.hits quiet.watch ∙ quiet.hits;
+}
+
+-- nothing is held behind its end
+ended_holds : (result : Result Ran Fault) (n : Mem) → (ended result n).held ≡ []
+unfolding committed discarded
+ended_holds (Ok ran) n = refl
+ended_holds (Err fault) n = refl
+
+-- so memory is quiet where an instruction has ended
+pub run_quiet : (pick : Pick) (insn : Insn) (old : Regs) (back given free : ℕ) (m n : Mem) (result : Result Ran Fault) (l : Left After) → IsQuiet m
+    → run_whole (by_pick pick) insn old back given free m ≡ (l, ended result n) → IsQuiet (ended result n)
+run_quiet pick insn old back given free m n result l quiet e = still_quiet m (ended result n) quiet (subst (λ (v : Left After × Mem). KeepsWatch m v.1) e (whole_keeps pick insn old back given free m)) (ended_holds result n)
+
+-- what holds nothing ends as it is
+pub placed_none : (m : Mem) → m.held ≡ [] → committed m ≡ m
+unfolding committed
+placed_none m none = ap (λ h. record m { physical = all_placed m.physical h; held = [] }) none ∙ ap (λ h. record m { held = h }) (sym none)
+
+pub dropped_none : (m : Mem) → m.held ≡ [] → discarded m ≡ m
+unfolding discarded
+dropped_none m none = ap (λ h. record m { held = h }) (sym none)
+
+-- ---- paging
+
+control_quiet : (number : ℕ) (r : Regs) (m : Mem) → IsQuiet m → IsQuiet (with_control number r m)
+control_quiet number r m quiet = by_number (number == 0) (number == 3)
   where
-    by_outcome : (w : Outcome Regs × Mem) → w ≡ tried serve 0 (gate_plan cause r) m → IfStep (finished (with_ext cause.ext w))
-    by_outcome (Passed q, n) e = placed serve 0 (gate_plan cause r) m n (Passed q) plain e
-    by_outcome (Failed fault, n) e = subst IsPlain (sym (dropped serve 0 (gate_plan cause r) m n (Failed fault) plain e)) plain
-    by_outcome (NoStep, n) e = tt
+    by_number : (a b : Bool) → IsQuiet (if a then record m { paging = has_paging r } else if b then record m { cr3 = r.cr3; cache = empty } else m)
+    by_number true b = record { held = quiet.held; served = quiet.served; watch = quiet.watch; hits = quiet.hits }
+    by_number false true = record { held = quiet.held; served = quiet.served; watch = quiet.watch; hits = quiet.hits }
+    by_number false false = quiet
 
-handled_plain : (w : Outcome Regs × Mem) (k : Regs → Mem → Outcome Arrival × Mem) (h : Fault → Mem → Outcome Arrival × Mem) → IfStep w
-    → ((q : Regs) (n : Mem) → IsPlain n → IfStep (k q n)) → ((fault : Fault) (n : Mem) → IsPlain n → IfStep (h fault n)) → IfStep (handled w k h)
-handled_plain (Passed q, n) k h plain p f = p q n plain
-handled_plain (Failed fault, n) k h plain p f = f fault n plain
-handled_plain (NoStep, n) k h plain p f = tt
+pub remapped_quiet : (op : Op) (a : Operand) (r : Regs) (m : Mem) → IsQuiet m → IsQuiet (remapped op a r m)
+remapped_quiet ops.Mov (Creg number) r m quiet = control_quiet number r m quiet
+remapped_quiet _ _ r m quiet = quiet
 
-followed_plain : (fault : Option Fault) (r : Regs) (m : Mem) (next : Cause → Regs → Mem → Outcome Arrival × Mem) → IsPlain m
-    → ((cause : Cause) (q : Regs) → IfStep (next cause q m)) → IfStep (followed_by fault r m next)
-followed_plain None r m next plain p = plain
-followed_plain (Some fault) r m next plain p = p (fault_cause r fault) (with_address r fault)
-
-deliveries_plain : (more : ℕ) (serve : Serve) (cause : Cause) (r : Regs) (m : Mem) → IsPlain m → IfStep (deliveries more serve cause r m)
-unfolding deliveries
-deliveries_plain zero serve cause r m plain = tt
-deliveries_plain (suc more) serve cause r m plain = handled_plain (delivered_once serve cause r m) _ _ (once_plain serve cause r m plain) (λ q n h. h)
-    (λ fault n h. followed_plain (combine cause fault) r n (deliveries more serve) h (λ c q. deliveries_plain more serve c q n h))
-
--- a delivery leaves memory plain
-pub delivered_plain : (serve : Serve) (cause : Cause) (r : Regs) (m n : Mem) (arrival : Arrival) → IsPlain m → ◌≡◌ {A = Outcome Arrival × Mem} (Passed arrival, n) (deliver serve cause r m) → IsPlain n
-unfolding deliver
-delivered_plain serve cause r m n arrival plain e = subst (λ (w : Outcome Arrival × Mem). IfStep w) (sym e) (deliveries_plain 4 serve cause r m plain)
-
--- ---- between two steps
-
-pub ready : (r : Regs) (m : Mem) → IsSound r → IsPlain m → IsReady r m
-ready r m sound plain = record { sound = sound; paging = λ _. plain.paging; held = plain.held; served = plain.served; watch = plain.watch; hits = plain.hits }
-
--- paging is off in real mode
-unpaged : (c : Bool) (r : Regs) → IsSound r → has_paging r ≡ c → has_protection r ≡ false → c ≡ false
-unpaged false r sound e real = refl
-unpaged true r sound e real = absurd (both (has_protection r) (sound.paged_mode e) real)
+control_agrees : (number : ℕ) (old new : Regs) (m : Mem) → PagesBy (number == 0) (number == 3) old new → Agree old m → Agree new (with_control number new m)
+control_agrees number old new m h agrees = by_number (number == 0) (number == 3) h
   where
-    both : (b : Bool) → b ≡ true → b ≡ false → ⊥
-    both true p q = cc
-    both false p q = cc
+    by_number : (a b : Bool) → PagesBy a b old new → Agree new (if a then record m { paging = has_paging new } else if b then record m { cr3 = new.cr3; cache = empty } else m)
+    by_number true b h = record { paging = refl; cr3 = agrees.cr3 ∙ sym h }
+    by_number false true h = record { paging = agrees.paging ∙ sym h; cr3 = refl }
+    by_number false false h = record { paging = agrees.paging ∙ sym h.0; cr3 = agrees.cr3 ∙ sym h.1 }
 
-control_ready : (number : ℕ) (r : Regs) (m : Mem) → IsSound r → IsPlain m → IsReady r (with_control number r m)
-control_ready number r m sound plain = by_number (number == 0) (number == 3)
-  where
-    by_number : (a b : Bool) → IsReady r (if a then record m { paging = has_paging r } else if b then record m { cr3 = r.cr3; cache = empty } else m)
-    by_number true b = record { sound = sound; paging = unpaged (has_paging r) r sound refl; held = plain.held; served = plain.served; watch = plain.watch; hits = plain.hits }
-    by_number false true = record { sound = sound; paging = λ _. plain.paging; held = plain.held; served = plain.served; watch = plain.watch; hits = plain.hits }
-    by_number false false = ready r m sound plain
+-- memory pages as the registers say that a MOV to a control register leaves
+pub remapped_agrees : (op : Op) (a : Operand) (old new : Regs) (m : Mem) → PagesAs op a old new → Agree old m → Agree new (remapped op a new m)
+remapped_agrees ops.Mov (Creg number) old new m h agrees = control_agrees number old new m h agrees
+remapped_agrees _ _ old new m h agrees = record { paging = agrees.paging ∙ sym h.0; cr3 = agrees.cr3 ∙ sym h.1 }
 
--- behind an instruction
-pub remapped_ready : (op : Op) (a : Operand) (r : Regs) (m : Mem) → IsSound r → IsPlain m → IsReady r (remapped op a r m)
-remapped_ready ops.Mov (Creg number) r m sound plain = control_ready number r m sound plain
-remapped_ready _ _ r m sound plain = ready r m sound plain
+-- what leaves both leaves them so
+pub agrees_on : (r : Regs) (m n : Mem) → Keeps m n → Agree r m → Agree r n
+agrees_on r m n keeps agrees = record { paging = keeps.paging ∙ agrees.paging; cr3 = keeps.cr3 ∙ agrees.cr3 }
+
+pub agrees_placed : (r : Regs) (n : Mem) → Agree r n → Agree r (committed n)
+unfolding committed
+agrees_placed r n agrees = record { paging = agrees.paging; cr3 = agrees.cr3 }
+
+pub agrees_dropped : (r : Regs) (n : Mem) → Agree r n → Agree r (discarded n)
+unfolding discarded
+agrees_dropped r n agrees = record { paging = agrees.paging; cr3 = agrees.cr3 }
+
+-- ---- behind an instruction
+
+settled_quiet : (result : Result Ran Fault) (insn : Insn) (r : Regs) (n : Mem) → IsQuiet (ended result n) → IsQuiet (settled result insn r n)
+settled_quiet (Ok ran) insn r n quiet = remapped_quiet insn.op insn.a r (committed n) quiet
+settled_quiet (Err fault) insn r n quiet = quiet
+
+pub settled_ready : (pick : Pick) (insn : Insn) (old : Regs) (back given free : ℕ) (new : Regs) (m n : Mem) (result : Result Ran Fault) (k : Mem) (l : Left After) → IsQuiet m
+    → run_whole (by_pick pick) insn old back given free m ≡ (l, ended result n) → IsSound new → Agree new (settled result insn new n) → k ≡ settled result insn new n → IsReady new k
+settled_ready pick insn old back given free new m n result k l quiet e sound tables same = subst (λ (i : Mem). IsReady new i) (sym same)
+    (record { sound = sound; tables = tables; quiet = settled_quiet result insn new n (run_quiet pick insn old back given free m n result l quiet e) })

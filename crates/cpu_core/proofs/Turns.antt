@@ -1,44 +1,38 @@
 -- Steps by their parts.
-use Rattle.std.proofs.Common.{◌≡◌, ℕ, Bool, true, false, List, [], ◌++◌, refl, sym, ap, subst, ◌∙◌, arith}
+use Rattle.std.proofs.Common.{◌≡◌, ℕ, Bool, true, false, List, [], ◌++◌, refl, sym, ap, subst, ◌∙◌}
 use Rattle.std.specs.Prelude.{bit_or}
 use Rattle.std.proofs.lemmas.List.{append-nil}
-use Rattle.std.proofs.lemmas.Nat.Bits.{bit_at_or, bit_at-zero, same_from_bits}
 use Rattle.mdl_state.specs.declared.Regs.{Regs}
 use Rattle.mdl_state.specs.declared.Fault.{Fault}
-use Rattle.mdl_state.specs.declared.Latches.{Latches}
 use Rattle.mdl_state.specs.declared.Next.{Next}
 use Rattle.mdl_state.specs.declared.Next.TheVariants as next
 use Rattle.mdl_state.specs.State.{Mem, Item, Core, State}
 use Rattle.mdl_state.specs.Machine.{Rules, Machine}
 use Rattle.mdl_state.specs.Bytes.{bit}
 use Rattle.mdl_state.specs.Watches.{unwatched}
-use Rattle.mdl_state.specs.Serving.{Serve, Pick, Policy, Outcome, Passed, Failed, handled, by_pick, by_list, with_items}
+use Rattle.mdl_state.specs.Serving.{Serve, Pick, Policy, Outcome, Passed, Failed, by_pick, by_list, with_items}
 use Rattle.mdl_state.specs.Choices.{Meets, Follows, walks_after, walks_after-append}
 use Rattle.mdl_cpu.specs.declared.Cause.{Cause}
-use Rattle.mdl_cpu.specs.Segments.{has_protection}
 use Rattle.mdl_cpu.specs.Causes.{event_cause, soft_cause}
+use Rattle.mdl_cpu.specs.Switch.{Left, left}
 use Rattle.mdl_insn.specs.declared.instruction.Insn.{Insn}
 use Rattle.mdl_insn.specs.declared.mnemonics.Op.{Op}
-use Rattle.mdl_insn.specs.declared.mnemonics.Op.TheVariants as ops
 use Rattle.mdl_effect.specs.Operands.{After, PortUse}
 use Rattle.mdl_step.specs.Fetching.{Instruction}
 use Rattle.mdl_step.specs.Boundary as rows
 use Rattle.mdl_step.specs.Boundary.{Boundary}
 use Rattle.mdl_step.specs.Delivering.{delivered}
-use Rattle.mdl_step.specs.Step.{is_covered, behind, landed, resumed, activity_after, masks, hold_after, MovesBoard, completed, passed_by, faulted, remapped, attempted, executed, step_trap, task_trap, latches_after, Comes, Delivers, at_trap, at_nmi, Does, EndsBy, row_of}
+use Rattle.mdl_step.specs.Step.{is_covered, behind, landed, resumed, activity_after, masks, hold_after, MovesBoard, completed, passed_by, faulted, remapped, attempted, ended_by, executed, step_trap, task_trap, Comes, Delivers, at_trap, at_nmi, Does, EndsBy, row_of}
 use Rattle.mdl_step.specs.RunLaws.{SomeStep}
 use Rattle.mdl_step.proofs.StepLaws.{fetch_follows}
 use Rattle.mdl_step.proofs.TurnLaws.{delivered_follows, comes_follows}
-use Rattle.cpu_core.specs.Plain.{IsPlain}
-use Rattle.cpu_core.specs.Executing.{MayFollow, Passes, Faults}
+use Rattle.cpu_core.specs.Plain.{IsQuiet}
+use Rattle.cpu_core.specs.Executing.{Passes, Faults}
 use Rattle.cpu_core.specs.Turns.{Executed, Takes, SomeTurn}
-use Rattle.cpu_core.proofs.Covered.{covered, same_attempt, unlooking}
+use Rattle.cpu_core.proofs.Pending.{or_zero}
+use Rattle.cpu_core.proofs.Covered.{same_run, unlooking}
 
 -- ---- what an instruction leaves
-
--- no bits are added to those that are pending
-or_zero : (n : ℕ) → bit_or n 0 ≡ n
-or_zero n = same_from_bits _ _ (λ i. bit_at_or n 0 i ∙ rw (bit_at-zero i) (omega arith))
 
 untrapped : (after : Next) (r : Regs) → bit r.eflags 8 ≡ false → step_trap after r ≡ 0
 untrapped (next.Soft vector) r e = refl
@@ -50,109 +44,99 @@ untrapped next.Halt r e = rw e refl
 untrapped next.HoldAll r e = rw e refl
 untrapped next.HoldIntr r e = rw e refl
 
-taskless : (after : Next) (r : Regs) → MayFollow after r → task_trap after ≡ 0
-taskless (next.Task trap) r h = absurd h
-taskless (next.Soft vector) r h = refl
-taskless next.Follow r h = refl
-taskless next.Landed r h = refl
-taskless next.Again r h = refl
-taskless next.Halt r h = refl
-taskless next.HoldAll r h = refl
-taskless next.HoldIntr r h = refl
+-- no more bits of DR6 are pending where TF was 0 and no task was entered
+none_pending : (after : Next) (r : Regs) (pending : ℕ) → bit r.eflags 8 ≡ false → task_trap after ≡ 0 → bit_or pending (bit_or 0 (bit_or (step_trap after r) (task_trap after))) ≡ pending
+none_pending after r pending e t = rw (untrapped after r e, t) (ap (bit_or pending) (ap (bit_or 0) (or_zero 0) ∙ or_zero 0) ∙ or_zero pending)
 
--- the latches behind an instruction of registers that are covered
-latches_left : (op : Op) (after : Next) (r q : Regs) (latches : Latches) → is_covered r ≡ true → MayFollow after q
-    → latches_after op after r 0 latches ≡ record latches { masked = masks op latches.masked; hold = hold_after after }
-latches_left op after r q latches e h = rw (untrapped after r (covered r e).trap, taskless after q h) (ap (λ (n : ℕ). record latches { masked = masks op latches.masked; hold = hold_after after; pending = n })
-    (ap (bit_or latches.pending) (ap (bit_or 0) (or_zero 0) ∙ or_zero 0) ∙ or_zero latches.pending))
+-- the processor behind an instruction that left these registers, with these bits of DR6 pending
+abbrev pub behind_it : Core → Op → Next → ℕ → ℕ → Core
+behind_it core op after back pending = record core {
+  regs = resumed op after (landed after core.regs back);
+  activity = activity_after after;
+  latches = record core.latches { masked = masks op core.latches.masked; hold = hold_after after; pending = pending };
+}
 
--- the processor that it leaves, by its parts
-pub left_by : (core : Core) (insn : Insn) (op : Op) (old : Regs) (after : Next) (back : ℕ) (access : PortUse) → insn.op ≡ op → is_covered old ≡ true → MayFollow after core.regs
-    → completed (record core { regs = old }) insn (record { regs = core.regs; next = after; access = access }) back 0
-    ≡ record core { regs = resumed op after (landed after core.regs back); activity = activity_after after; latches = record core.latches { masked = masks op core.latches.masked; hold = hold_after after } }
-left_by core insn op old after back access is e h = rw is (ap (λ (l : Latches). record core { regs = resumed op after (landed after core.regs back); activity = activity_after after; latches = l }) (latches_left op after old core.regs core.latches e h))
+abbrev pub pending_behind : Next → Regs → ℕ → ℕ
+pending_behind after r pending = bit_or pending (bit_or 0 (bit_or (step_trap after r) (task_trap after)))
+
+left_by : (core : Core) (insn : Insn) (op : Op) (old : Regs) (after : Next) (back : ℕ) (access : PortUse) → insn.op ≡ op
+    → completed (record core { regs = old }) insn (record { regs = core.regs; next = after; access = access }) back 0 ≡ behind_it core op after back (pending_behind after old core.latches.pending)
+left_by core insn op old after back access is = rw is refl
 
 -- an instruction that no software interrupt follows
-ordinarily : (after : Next) (serve : Serve) (core : Core) (insn : Insn) (left : After) (back hits : ℕ) (r : Regs) (m : Mem) → MayFollow after r → ((vector : ℕ) → after ≡ next.Soft vector → ⊥)
+ordinarily : (after : Next) (serve : Serve) (core : Core) (insn : Insn) (left : After) (back hits : ℕ) (m : Mem) → ((vector : ℕ) → after ≡ next.Soft vector → ⊥)
     → passed_by after serve core insn left back hits m ≡ (Passed (completed core insn left back hits), m)
-ordinarily (next.Soft vector) serve core insn left back hits r m h o = absurd (o vector refl)
-ordinarily (next.Task trap) serve core insn left back hits r m h o = absurd h
-ordinarily next.Follow serve core insn left back hits r m h o = refl
-ordinarily next.Landed serve core insn left back hits r m h o = refl
-ordinarily next.Again serve core insn left back hits r m h o = refl
-ordinarily next.Halt serve core insn left back hits r m h o = refl
-ordinarily next.HoldAll serve core insn left back hits r m h o = refl
-ordinarily next.HoldIntr serve core insn left back hits r m h o = refl
+ordinarily (next.Soft vector) serve core insn left back hits m o = absurd (o vector refl)
+ordinarily (next.Task trap) serve core insn left back hits m o = refl
+ordinarily next.Follow serve core insn left back hits m o = refl
+ordinarily next.Landed serve core insn left back hits m o = refl
+ordinarily next.Again serve core insn left back hits m o = refl
+ordinarily next.Halt serve core insn left back hits m o = refl
+ordinarily next.HoldAll serve core insn left back hits m o = refl
+ordinarily next.HoldIntr serve core insn left back hits m o = refl
 
 softly : (after : Next) (vector : ℕ) (serve : Serve) (core : Core) (insn : Insn) (left : After) (back hits : ℕ) (m : Mem) → after ≡ next.Soft vector
     → passed_by after serve core insn left back hits m ≡ delivered serve (soft_cause vector back) (completed core insn left back hits) m
 softly after vector serve core insn left back hits m is = rw is refl
 
-module _ (pick : Pick) (core mid : Core) (insn : Insn) (op : Op) (old : Regs) (after : Next) (back : ℕ) (access : PortUse) (m : Mem)
-    (is : insn.op ≡ op) (cover : is_covered old ≡ true) (follows : MayFollow after core.regs)
-    (landing : mid ≡ record core { regs = resumed op after (landed after core.regs back); activity = activity_after after; latches = record core.latches { masked = masks op core.latches.masked; hold = hold_after after } }) where
-  pub passed_soft : (vector : ℕ) (cause : Cause) (w : Outcome Core × Mem) → after ≡ next.Soft vector → cause ≡ soft_cause vector back → delivered (by_pick pick) cause mid m ≡ w
+module _ (pick : Pick) (core mid : Core) (insn : Insn) (op : Op) (old : Regs) (after : Next) (back : ℕ) (access : PortUse) (m : Mem) (is : insn.op ≡ op) where
+  -- with a software interrupt
+  pub passed_soft : (vector : ℕ) (cause : Cause) (w : Outcome Core × Mem) → mid ≡ behind_it core op after back (pending_behind after old core.latches.pending)
+      → after ≡ next.Soft vector → cause ≡ soft_cause vector back → delivered (by_pick pick) cause mid m ≡ w
       → passed_by after (by_pick pick) (record core { regs = old }) insn (record { regs = core.regs; next = after; access = access }) back 0 m ≡ w
-  passed_soft vector cause w soft named done = softly after vector (by_pick pick) (record core { regs = old }) insn (record { regs = core.regs; next = after; access = access }) back 0 m soft
-      ∙ ap (λ (k : Core). delivered (by_pick pick) (soft_cause vector back) k m) (left_by core insn op old after back access is cover follows ∙ sym landing)
+  passed_soft vector cause w landing soft named done = softly after vector (by_pick pick) (record core { regs = old }) insn (record { regs = core.regs; next = after; access = access }) back 0 m soft
+      ∙ ap (λ (k : Core). delivered (by_pick pick) (soft_cause vector back) k m) (left_by core insn op old after back access is ∙ sym landing)
       ∙ ap (λ (k : Cause). delivered (by_pick pick) k mid m) (sym named) ∙ done
 
-  pub passed_plain : (n : Mem) → n ≡ m → ((vector : ℕ) → after ≡ next.Soft vector → ⊥)
+  -- without one
+  pub passed_plain : (n : Mem) → mid ≡ behind_it core op after back (pending_behind after old core.latches.pending) → n ≡ m → ((vector : ℕ) → after ≡ next.Soft vector → ⊥)
       → passed_by after (by_pick pick) (record core { regs = old }) insn (record { regs = core.regs; next = after; access = access }) back 0 m ≡ (Passed mid, n)
-  passed_plain n same o = ordinarily after (by_pick pick) (record core { regs = old }) insn (record { regs = core.regs; next = after; access = access }) back 0 core.regs m follows o
-      ∙ ap (λ (k : Core). (Passed k, m)) (left_by core insn op old after back access is cover follows ∙ sym landing) ∙ ap (λ (k : Mem). (Passed mid, k)) (sym same)
+  passed_plain n landing same o = ordinarily after (by_pick pick) (record core { regs = old }) insn (record { regs = core.regs; next = after; access = access }) back 0 m o
+      ∙ ap (λ (k : Core). (Passed k, m)) (left_by core insn op old after back access is ∙ sym landing) ∙ ap (λ (k : Mem). (Passed mid, k)) (sym same)
 
--- a software interrupt leaves RF to its delivery
-soft_resumes : (op : Op) (vector : ℕ) (r : Regs) → resumed op (next.Soft vector) r ≡ r
-soft_resumes ops.Iret vector r = refl
-soft_resumes ops.Popf vector r = refl
-soft_resumes _ vector r = refl
-
-soft_lands : (op : Op) (after : Next) (vector back : ℕ) (r : Regs) → after ≡ next.Soft vector → resumed op after (landed after r back) ≡ r
-soft_lands op after vector back r is = rw is (soft_resumes op vector r)
-
--- so it comes in the mode of the instruction
-pub soft_real : (op : Op) (after : Next) (vector back : ℕ) (r q : Regs) → after ≡ next.Soft vector → q ≡ resumed op after (landed after r back) → MayFollow after r → has_protection q ≡ false
-soft_real op after vector back r q is same follows = ap has_protection (same ∙ soft_lands op after vector back r is) ∙ subst (λ (a : Next). MayFollow a r) is follows
+  -- and where TF was 0 and no task was entered
+  pub passed_usual : (n : Mem) → mid ≡ behind_it core op after back core.latches.pending → n ≡ m → ((vector : ℕ) → after ≡ next.Soft vector → ⊥) → bit old.eflags 8 ≡ false → task_trap after ≡ 0
+      → passed_by after (by_pick pick) (record core { regs = old }) insn (record { regs = core.regs; next = after; access = access }) back 0 m ≡ (Passed mid, n)
+  passed_usual n landing same o e t = passed_plain n (landing ∙ ap (behind_it core op after back) (sym (none_pending after old core.latches.pending e t))) same o
 
 -- ---- what it comes to
 
 module _ {B : Type 0} (rules : Rules B) (pick : Pick) (core : Core) (insn : Insn) (count : ℕ) (mid : Mem) (before : B)
-    (cover : is_covered core.regs ≡ true) (plain : IsPlain mid) where
+    (cover : is_covered core.regs ≡ true) (quiet : IsQuiet mid) where
   -- it passes
-  pub passing : (new : Regs) (after : Next) (k : Mem) (behind_it : B) (w : Outcome Core × Mem)
-      → (p : Passes rules pick insn core.regs (behind core.regs count) mid before new after k behind_it)
+  pub passing : (new : Regs) (after : Next) (k : Mem) (board : B) (w : Outcome Core × Mem)
+      → (p : Passes rules pick insn core.regs (behind core.regs count) mid before new after k board)
       → ((access : PortUse) → passed_by after (by_pick pick) core insn (record { regs = new; next = after; access = access }) (behind core.regs count) 0 k ≡ w)
-      → Comes rules (by_pick pick) core (Instruction insn count) new.eflags mid before w behind_it
-  passing new after k behind_it w p h = (p.given, moved, became)
+      → Comes rules (by_pick pick) core (Instruction insn count) new.eflags mid before w board
+  passing new after k board w p h = (p.given, moved, became)
     where
-      picked : attempted (by_pick pick) core insn (behind core.regs count) p.given new.eflags mid ≡ (Passed (record { regs = new; next = after; access = p.access }), p.left)
-      picked = same_attempt pick core insn (behind core.regs count) p.given new.eflags mid cover plain ∙ p.passed
+      picked : attempted (by_pick pick) core insn (behind core.regs count) p.given new.eflags mid ≡ left (Passed (record { regs = new; next = after; access = p.access })) p.rest p.placed
+      picked = same_run pick core insn (behind core.regs count) p.given new.eflags mid cover quiet ∙ p.passed
 
-      moved : MovesBoard rules (attempted (by_pick pick) core insn (behind core.regs count) p.given new.eflags mid).0 p.given before behind_it
-      moved = subst (λ (v : Outcome After × Mem). MovesBoard rules v.0 p.given before behind_it) (sym picked) p.moves
+      moved : MovesBoard rules (attempted (by_pick pick) core insn (behind core.regs count) p.given new.eflags mid).0.outcome p.given before board
+      moved = subst (λ (v : Left After × Mem). MovesBoard rules v.0.outcome p.given before board) (sym picked) p.moves
 
       became : executed (by_pick pick) core insn (behind core.regs count) p.given new.eflags mid ≡ w
-      became = ap (λ (v : Outcome After × Mem). handled v (λ a n. passed_by a.next (by_pick pick) core insn a (behind core.regs count) n.hits (remapped insn.op insn.a a.regs (unwatched n))) (λ fault n. faulted (by_pick pick) core fault (unwatched n))) picked
-          ∙ ap (λ (hits : ℕ). passed_by after (by_pick pick) core insn (record { regs = new; next = after; access = p.access }) (behind core.regs count) hits (remapped insn.op insn.a new (unwatched p.left))) p.plain.hits
-          ∙ ap (λ (n : Mem). passed_by after (by_pick pick) core insn (record { regs = new; next = after; access = p.access }) (behind core.regs count) 0 (remapped insn.op insn.a new n)) (unlooking p.left p.plain)
+      became = ap (λ (v : Left After × Mem). ended_by (by_pick pick) core insn (behind core.regs count) v) picked
+          ∙ ap (λ (hits : ℕ). passed_by after (by_pick pick) core insn (record { regs = new; next = after; access = p.access }) (behind core.regs count) hits (remapped insn.op insn.a new (unwatched p.placed))) p.quiet.hits
+          ∙ ap (λ (n : Mem). passed_by after (by_pick pick) core insn (record { regs = new; next = after; access = p.access }) (behind core.regs count) 0 (remapped insn.op insn.a new n)) (unlooking p.placed p.quiet)
           ∙ ap (λ (n : Mem). passed_by after (by_pick pick) core insn (record { regs = new; next = after; access = p.access }) (behind core.regs count) 0 n) (sym p.mapped)
           ∙ h p.access
 
-  -- it faults
-  pub failing : (fault : Fault) (w : Outcome Core × Mem) → (p : Faults pick insn core.regs (behind core.regs count) mid fault)
-      → faulted (by_pick pick) core fault mid ≡ w → Comes rules (by_pick pick) core (Instruction insn count) p.free mid before w before
-  failing fault w p h = (p.given, moved, became)
+  -- it faults, in the task that has these registers
+  pub failing : (fault : Fault) (r : Regs) (n : Mem) (w : Outcome Core × Mem) → (p : Faults pick insn core.regs (behind core.regs count) mid fault r n) → IsQuiet n
+      → faulted (by_pick pick) (record core { regs = r }) fault n ≡ w → Comes rules (by_pick pick) core (Instruction insn count) p.free mid before w before
+  failing fault r n w p still h = (p.given, moved, became)
     where
-      picked : attempted (by_pick pick) core insn (behind core.regs count) p.given p.free mid ≡ (Failed fault, mid)
-      picked = same_attempt pick core insn (behind core.regs count) p.given p.free mid cover plain ∙ p.failed
+      picked : attempted (by_pick pick) core insn (behind core.regs count) p.given p.free mid ≡ left (Failed fault) r n
+      picked = same_run pick core insn (behind core.regs count) p.given p.free mid cover quiet ∙ p.failed
 
-      moved : MovesBoard rules (attempted (by_pick pick) core insn (behind core.regs count) p.given p.free mid).0 p.given before before
-      moved = subst (λ (v : Outcome After × Mem). MovesBoard rules v.0 p.given before before) (sym picked) refl
+      moved : MovesBoard rules (attempted (by_pick pick) core insn (behind core.regs count) p.given p.free mid).0.outcome p.given before before
+      moved = subst (λ (v : Left After × Mem). MovesBoard rules v.0.outcome p.given before before) (sym picked) refl
 
       became : executed (by_pick pick) core insn (behind core.regs count) p.given p.free mid ≡ w
-      became = ap (λ (v : Outcome After × Mem). handled v (λ a n. passed_by a.next (by_pick pick) core insn a (behind core.regs count) n.hits (remapped insn.op insn.a a.regs (unwatched n))) (λ e n. faulted (by_pick pick) core e (unwatched n))) picked
-          ∙ ap (λ (n : Mem). faulted (by_pick pick) core fault n) (unlooking mid plain) ∙ h
+      became = ap (λ (v : Left After × Mem). ended_by (by_pick pick) core insn (behind core.regs count) v) picked
+          ∙ ap (λ (k : Mem). faulted (by_pick pick) (record core { regs = r }) fault k) (unlooking n still) ∙ h
 
 -- ---- for some choice
 

@@ -1,10 +1,12 @@
 -- What a row of the boundary does, over a memory with a rule that serves its pages, and for some choice.
-use Rattle.std.specs.Prelude.{◌≡◌, ◌+◌, ℕ, true}
+use Rattle.std.specs.Prelude.{◌≡◌, ◌+◌, ℕ, true, false}
 use Rattle.mdl_state.specs.State.{Mem, Choice}
 use Rattle.mdl_state.specs.Machine.{Rules, Machine}
+use Rattle.mdl_state.specs.Bytes.{bit}
 use Rattle.mdl_state.specs.Choices.{Meets, walks_after}
 use Rattle.mdl_state.specs.Serving.{Pick, Policy, Passed, by_pick}
 use Rattle.mdl_cpu.specs.Causes.{event_cause}
+use Rattle.mdl_cpu.specs.SystemFlags.{TF}
 use Rattle.mdl_step.specs.Boundary.{Boundary, Idle, Trap, Break, Nmi, Line, Execute}
 use Rattle.mdl_step.specs.Delivering.{delivered}
 use Rattle.mdl_step.specs.Fetching.{Code, Fetches}
@@ -37,10 +39,11 @@ pub record SomeTurn {B : Type 0} (row : Boundary) (rules : Rules B) (policy : Po
   pub does : Does row rules policy m choice n
   pub walks : n.state.mem.walks ≡ walks_after choice.served m.state.mem.walks
 
--- an instruction is executed next, and nothing was done yet
+-- an instruction is executed next, with TF 0, and nothing was done yet
 pub record Goes {B : Type 0} (rules : Rules B) (m n : Machine B) : Type 0 where
   pub same : n ≡ m
   pub covered : is_covered n.state.core.regs ≡ true
+  pub untraced : bit n.state.core.regs.eflags TF ≡ false
   pub row : row_of rules n ≡ Execute
 
 -- a step was made, for some choice that meets each policy that the rule of the memory meets

@@ -35,7 +35,7 @@ pub(crate) enum Row {
 /// What a step is, up to where an instruction is executed.
 #[derive(Clone, Copy)]
 pub(crate) enum Turn {
-    /// An instruction is executed next.
+    /// An instruction is executed next, with TF 0.
     Executes,
     /// It is made.
     Made,

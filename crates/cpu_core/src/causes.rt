@@ -3,11 +3,14 @@
 ghost use Rattle.std.specs.Prelude.{◌≡◌, ℕ, if◌then◌else◌, bit_or};
 ghost use Rattle.mdl_state.specs.declared.Regs.{Regs as Registers};
 ghost use Rattle.mdl_cpu.specs.Causes.{event_cause, soft_cause};
+ghost use Rattle.mdl_cpu.specs.SystemFlags.{TF};
+ghost use Rattle.mdl_state.specs.Bytes.{bit};
 ghost use Rattle.mdl_step.specs.Delivering.{BT};
+ghost use Rattle.mdl_step.specs.Step.{step_trap, task_trap};
 ghost use Rattle.fault_delivery.specs.Arrivals.{arrival};
 
 use fault_delivery::{Cause, Delivered};
-use mdl_state::{Activity, Regs};
+use mdl_state::{Activity, Next, Regs};
 
 /// The vectors of a debug trap and of a non-maskable interrupt.
 pub(crate) const DEBUG: u8 = 1;
@@ -62,5 +65,28 @@ pub(crate) fn pending_at(delivered: Delivered, pending: u16) -> u16
     match delivered {
         Delivered::Done(true) => pending | TASK_TRAP,
         _ => pending,
+    }
+}
+
+/// The bit of DR6 of a single step.
+const SINGLE_STEP: u16 = 0x4000;
+
+/// The bits of DR6 that are pending behind an instruction: that of a single step, where TF was 1 as it
+/// began, and that of a task whose T bit is set. A software interrupt and a task switch come without the
+/// first.
+#[tactic(auto, using(crate::proofs::Pending::or_zero))]
+pub(crate) fn pending_after(next: Next, traced: bool, pending: u16) -> u16
+    ensures { (r : Registers) → bit r.eflags TF ≡ traced → result ≡ bit_or pending (bit_or 0 (bit_or (step_trap next r) (task_trap next))) }
+{
+    match next {
+        Next::Soft(_) | Next::Task(false) => pending,
+        Next::Task(true) => pending | TASK_TRAP,
+        _ => {
+            if traced {
+                pending | SINGLE_STEP
+            } else {
+                pending
+            }
+        }
     }
 }

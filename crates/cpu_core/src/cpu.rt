@@ -4,25 +4,27 @@ ghost use Rattle.std.specs.Prelude.{◌≡◌, ◌<◌, ◌+◌, ◌-◌, ◌^�
 ghost use Rattle.std.specs.Bool.{OnTrue, OnFalse};
 ghost use Rattle.mdl_state.specs.declared.Regs.{Regs as Registers};
 ghost use Rattle.mdl_state.specs.Accesses.{with_a20};
+ghost use Rattle.mdl_state.specs.Bytes.{bit};
 ghost use Rattle.mdl_state.specs.Boot.{reset_core};
 ghost use Rattle.mdl_state.specs.Machine.{Machine};
 ghost use Rattle.mdl_state.specs.Serving.{Passed, by_pick};
 ghost use Rattle.mdl_insn.specs.declared.instruction.Insn.{Insn as Instruction};
 ghost use Rattle.mdl_cpu.specs.Causes.{event_cause};
-ghost use Rattle.mdl_cpu.specs.Segments.{has_protection};
+ghost use Rattle.mdl_cpu.specs.SystemFlags.{TF};
 ghost use Rattle.mdl_effect.specs.Operands.{PortUse};
 ghost use Rattle.mem_iface.specs.Rules.{rules_of};
 ghost use Rattle.mdl_step.specs.Boundary as rows;
 ghost use Rattle.mdl_step.specs.Delivering.{delivered};
 ghost use Rattle.mdl_step.specs.Events.{with_nmi, reset_with};
 ghost use Rattle.mdl_step.specs.Step.{EndsBy, activity_after, at_nmi, at_trap, faulted, hold_after, is_covered, landed, masks, passed_by, resumed};
-ghost use Rattle.cpu_core.specs.Executing.{MayFollow};
 ghost use Rattle.cpu_core.specs.Plain.{IsPlain, IsReady};
 ghost use Rattle.cpu_core.specs.Rows.{told};
 ghost use Rattle.cpu_core.specs.Turns.{Executed, Takes};
 
 use crate::boundary::{Row, activity_after, hold_after};
-use crate::causes::{DEBUG, NON_MASKABLE, activity_at, event_cause, pending_at, soft_cause};
+use crate::causes::{
+    DEBUG, NON_MASKABLE, activity_at, event_cause, pending_after, pending_at, soft_cause,
+};
 use crate::code::Code;
 use crate::decoding::decode;
 use crate::execute::{execute, land, masks};
@@ -38,7 +40,7 @@ use std::marker::Model;
 /// The processor over a memory and over ports, seen as the machine with the ports as its board.
 ///
 /// The status flags are kept apart from EFLAGS, and `insn` is the place of the instruction that is
-/// decoded. Between two steps the registers are sound, and in real mode paging is off; nothing is held, no
+/// decoded. Between two steps the registers are sound, and memory pages as they say; nothing is held, no
 /// items are left, and no breakpoint is looked for.
 #[derive(Drop)]
 pub struct Cpu<L: Linear, P: Ports> {
@@ -116,10 +118,8 @@ impl<L: Linear, P: Ports> Cpu<L, P> {
         }
     }
 
-    /// Delivers a cause, in real mode.
-    #[tactic(auto, using(fault_delivery::proofs::Attempts::real_ready))]
+    /// Delivers a cause.
     fn deliver(&mut self, cause: Cause)
-        requires mode { has_protection self.old.state.core.regs ≡ false }
         ensures delivered { delivered (by_pick L.pick) cause self.old.state.core self.old.state.mem ≡ (Passed self.new.state.core, self.new.state.mem) }
         ensures board { self.new.board ≡ self.old.board }
         ensures steps { self.new.state.core.steps ≡ self.old.state.core.steps }
@@ -135,7 +135,6 @@ impl<L: Linear, P: Ports> Cpu<L, P> {
 
     /// Delivers the fault of the instruction at CS:EIP. What was held back no longer is.
     fn fault(&mut self, fault: Fault)
-        requires mode { has_protection self.old.state.core.regs ≡ false }
         ensures faulted { faulted (by_pick L.pick) self.old.state.core fault self.old.state.mem ≡ (Passed self.new.state.core, self.new.state.mem) }
         ensures board { self.new.board ≡ self.old.board }
         ensures steps { self.new.state.core.steps ≡ self.old.state.core.steps }
@@ -165,12 +164,12 @@ impl<L: Linear, P: Ports> Cpu<L, P> {
         self.latches.hold = hold_after(next);
     }
 
-    /// What follows an instruction that passed: a software interrupt is delivered.
+    /// What follows an instruction that passed: a software interrupt is delivered, and a trap is pending.
+    /// `traced` tells whether TF was 1 as it began.
     #[inline(never)]
-    fn complete_with(&mut self, op: Op, next: Next, back: u32)
-        requires follows { MayFollow next self.old.state.core.regs }
+    fn complete_with(&mut self, op: Op, next: Next, back: u32, traced: bool)
         requires served { self.old.state.mem.served ≡ [] }
-        ensures made { (insn : Instruction) (old : Registers) (access : PortUse) → insn.op ≡ op → is_covered old ≡ true →
+        ensures made { (insn : Instruction) (old : Registers) (access : PortUse) → insn.op ≡ op → bit old.eflags TF ≡ traced →
             passed_by next (by_pick L.pick) (record self.old.state.core { regs = old }) insn (record { regs = self.old.state.core.regs; next = next; access = access }) back 0 self.old.state.mem
             ≡ (Passed self.new.state.core, self.new.state.mem) }
         ensures board { self.new.board ≡ self.old.board }
@@ -179,6 +178,7 @@ impl<L: Linear, P: Ports> Cpu<L, P> {
         ensures a20 { self.new.state.mem.physical.a20 ≡ self.old.state.mem.physical.a20 }
     {
         self.land(op, next, back);
+        self.latches.pending = pending_after(next, traced, self.latches.pending);
         if let Next::Soft(vector) = next {
             self.deliver(soft_cause(vector, back));
         }
@@ -186,10 +186,9 @@ impl<L: Linear, P: Ports> Cpu<L, P> {
 
     /// The same, with what mostly follows in line.
     #[inline(always)]
-    fn complete(&mut self, op: Op, next: Next, back: u32)
-        requires follows { MayFollow next self.old.state.core.regs }
+    fn complete(&mut self, op: Op, next: Next, back: u32, traced: bool)
         requires served { self.old.state.mem.served ≡ [] }
-        ensures made { (insn : Instruction) (old : Registers) (access : PortUse) → insn.op ≡ op → is_covered old ≡ true →
+        ensures made { (insn : Instruction) (old : Registers) (access : PortUse) → insn.op ≡ op → bit old.eflags TF ≡ traced →
             passed_by next (by_pick L.pick) (record self.old.state.core { regs = old }) insn (record { regs = self.old.state.core.regs; next = next; access = access }) back 0 self.old.state.mem
             ≡ (Passed self.new.state.core, self.new.state.mem) }
         ensures board { self.new.board ≡ self.old.board }
@@ -197,19 +196,24 @@ impl<L: Linear, P: Ports> Cpu<L, P> {
         ensures served { self.new.state.mem.served ≡ [] }
         ensures a20 { self.new.state.mem.physical.a20 ≡ self.old.state.mem.physical.a20 }
     {
+        if traced {
+            self.complete_with(op, next, back, true);
+            return;
+        }
         match next {
             Next::Follow => self.land(op, Next::Follow, back),
             Next::Landed => self.land(op, Next::Landed, back),
             Next::Again => self.land(op, Next::Again, back),
-            _ => self.complete_with(op, next, back),
+            _ => self.complete_with(op, next, back, false),
         }
     }
 
     /// Executes the instruction at CS:EIP, or delivers its fault. Answers whether a port may have been
-    /// written.
+    /// written. `traced` tells whether TF is 1.
     #[inline(always)]
-    pub(crate) fn execute(&mut self) -> bool
+    pub(crate) fn execute(&mut self, traced: bool) -> bool
         requires covered { is_covered self.old.state.core.regs ≡ true }
+        requires traced { bit self.old.state.core.regs.eflags TF ≡ traced }
         ensures executed { Executed (rules_of P.Ports) L.pick self.old self.new }
         ensures steps { self.new.state.core.steps ≡ self.old.state.core.steps }
         ensures served { self.new.state.mem.served ≡ [] }
@@ -234,7 +238,7 @@ impl<L: Linear, P: Ports> Cpu<L, P> {
         ) {
             Ok(ran) => {
                 let op = self.insn.op;
-                self.complete(op, ran.next, back);
+                self.complete(op, ran.next, back, traced);
                 !ran.alone
             }
             Err(fault) => {
@@ -244,9 +248,22 @@ impl<L: Linear, P: Ports> Cpu<L, P> {
         }
     }
 
+    /// The same, where TF is 1.
+    #[inline(never)]
+    pub(crate) fn trace(&mut self) -> bool
+        requires covered { is_covered self.old.state.core.regs ≡ true }
+        requires traced { bit self.old.state.core.regs.eflags TF ≡ true }
+        ensures executed { Executed (rules_of P.Ports) L.pick self.old self.new }
+        ensures steps { self.new.state.core.steps ≡ self.old.state.core.steps }
+        ensures served { self.new.state.mem.served ≡ [] }
+        ensures a20 { self.new.state.mem.physical.a20 ≡ self.old.state.mem.physical.a20 }
+        ensures board { OnFalse result (self.new.board ≡ self.old.board) }
+    {
+        self.execute(true)
+    }
+
     /// Delivers the debug trap that is pending.
     fn trap(&mut self)
-        requires mode { has_protection self.old.state.core.regs ≡ false }
         ensures delivered { delivered (by_pick L.pick) (event_cause self.old.state.core.regs 1) (at_trap self.old.state.core) self.old.state.mem
             ≡ (Passed self.new.state.core, self.new.state.mem) }
         ensures board { self.new.board ≡ self.old.board }
@@ -262,7 +279,6 @@ impl<L: Linear, P: Ports> Cpu<L, P> {
 
     /// Delivers the NMI that waits, and masks others.
     fn take_nmi(&mut self)
-        requires mode { has_protection self.old.state.core.regs ≡ false }
         ensures delivered { delivered (by_pick L.pick) (event_cause self.old.state.core.regs 2) (at_nmi self.old.state.core) self.old.state.mem
             ≡ (Passed self.new.state.core, self.new.state.mem) }
         ensures board { self.new.board ≡ self.old.board }
@@ -278,7 +294,6 @@ impl<L: Linear, P: Ports> Cpu<L, P> {
 
     /// Acknowledges the interrupt that the board wants, and delivers its vector.
     fn interrupt(&mut self)
-        requires mode { has_protection self.old.state.core.regs ≡ false }
         requires wants { P.wants self.old.board ≡ true }
         ensures delivered { (vector : ℕ) × P.tells self.old.board vector self.new.board
             × (delivered (by_pick L.pick) (event_cause self.old.state.core.regs vector) self.old.state.core self.old.state.mem ≡ (Passed self.new.state.core, self.new.state.mem)) }

@@ -1,8 +1,7 @@
 //! An instruction by the family of its mnemonic.
 
-ghost use Rattle.std.specs.Prelude.{◌≡◌, ◌&&◌, ℕ, Bool, true, false, List, IsTrue, not, []};
+ghost use Rattle.std.specs.Prelude.{◌≡◌, ◌&&◌, ℕ, Bool, true, false, List, IsTrue, not};
 ghost use Rattle.mdl_insn.specs.Spelling.{Spelt};
-ghost use Rattle.mdl_cpu.specs.Segments.{has_protection};
 ghost use Rattle.mdl_effect.specs.DataEffects.{runs_data};
 ghost use Rattle.mdl_effect.specs.FlowEffects.{runs_flow};
 ghost use Rattle.mdl_effect.specs.StringEffects.{runs_string};
@@ -11,6 +10,7 @@ ghost use Rattle.mdl_effect.specs.SystemEffects.{runs_system};
 ghost use Rattle.mem_iface.specs.Rules.{rules_of};
 ghost use Rattle.operands.specs.Whole.{whole};
 ghost use Rattle.cpu_core.specs.Families.{is_port_string};
+ghost use Rattle.cpu_core.specs.Plain.{IsReady};
 ghost use Rattle.cpu_core.specs.Ran.{marked, Runs};
 
 use exec_data::runs_data;
@@ -65,8 +65,7 @@ fn run_data<L: Linear, P: Ports>(
 ) -> Result<Ran, Fault>
     requires spelt { (bytes : List ℕ) × (big : Bool) × Spelt bytes big insn.now }
     requires runs { runs_data insn.now ≡ true }
-    requires mode { has_protection regs.old ≡ false }
-    requires held { (L.seen lin.old).held ≡ [] }
+    requires ready { IsReady (whole regs.old flags.old) (L.seen lin.old) }
     ensures { Runs (rules_of P.Ports) L.pick insn.now (whole regs.old flags.old) back (L.seen lin.old) ports.now result (whole regs.new flags.new) (L.seen lin.new) ports.now }
 {
     marked(exec_data::run(regs, flags, lin, insn, back), true)
@@ -84,8 +83,7 @@ fn run_flow<L: Linear, P: Ports>(
 ) -> Result<Ran, Fault>
     requires spelt { (bytes : List ℕ) × (big : Bool) × Spelt bytes big insn.now }
     requires runs { runs_flow insn.now ≡ true }
-    requires mode { has_protection regs.old ≡ false }
-    requires held { (L.seen lin.old).held ≡ [] }
+    requires ready { IsReady (whole regs.old flags.old) (L.seen lin.old) }
     ensures { Runs (rules_of P.Ports) L.pick insn.now (whole regs.old flags.old) back (L.seen lin.old) ports.now result (whole regs.new flags.new) (L.seen lin.new) ports.now }
 {
     marked(exec_flow::run(regs, flags, lin, insn, back), true)
@@ -103,15 +101,14 @@ fn run_string<L: Linear, P: Ports>(
 ) -> Result<Ran, Fault>
     requires spelt { (bytes : List ℕ) × (big : Bool) × Spelt bytes big insn.now }
     requires runs { runs_string insn.now.op ≡ true }
-    requires mode { has_protection regs.old ≡ false }
-    requires held { (L.seen lin.old).held ≡ [] }
+    requires ready { IsReady (whole regs.old flags.old) (L.seen lin.old) }
     ensures { Runs (rules_of P.Ports) L.pick insn.now (whole regs.old flags.old) back (L.seen lin.old) ports.old result (whole regs.new flags.new) (L.seen lin.new) ports.new }
 {
     let answer = string_ops::run(regs, flags, lin, ports, insn);
     marked(answer, !is_port_string(insn.op))
 }
 
-/// A far instruction, which has EFLAGS whole.
+/// A far instruction, which has EFLAGS whole, and has placed what it writes.
 #[inline(never)]
 fn run_far<L: Linear, P: Ports>(
     regs: &mut Regs,
@@ -123,14 +120,13 @@ fn run_far<L: Linear, P: Ports>(
 ) -> Result<Ran, Fault>
     requires spelt { (bytes : List ℕ) × (big : Bool) × Spelt bytes big insn.now }
     requires runs { runs_far insn.now ≡ true }
-    requires mode { has_protection regs.old ≡ false }
-    requires held { (L.seen lin.old).held ≡ [] }
+    requires ready { IsReady (whole regs.old flags.old) (L.seen lin.old) }
     ensures { Runs (rules_of P.Ports) L.pick insn.now (whole regs.old flags.old) back (L.seen lin.old) ports.now result (whole regs.new flags.new) (L.seen lin.new) ports.now }
 {
     regs.eflags = flags.pack(regs.eflags);
     let answer = exec_far::run(regs, lin, insn, back);
     *flags = Flags::unpack(regs.eflags);
-    marked(answer, false)
+    marked(answer, true)
 }
 
 /// An instruction of the system, which has EFLAGS whole.
@@ -145,8 +141,7 @@ fn run_system<L: Linear, P: Ports>(
 ) -> Result<Ran, Fault>
     requires spelt { (bytes : List ℕ) × (big : Bool) × Spelt bytes big insn.now }
     requires runs { runs_system insn.now ≡ true }
-    requires mode { has_protection regs.old ≡ false }
-    requires held { (L.seen lin.old).held ≡ [] }
+    requires ready { IsReady (whole regs.old flags.old) (L.seen lin.old) }
     ensures { Runs (rules_of P.Ports) L.pick insn.now (whole regs.old flags.old) back (L.seen lin.old) ports.old result (whole regs.new flags.new) (L.seen lin.new) ports.new }
 {
     regs.eflags = flags.pack(regs.eflags);
@@ -155,7 +150,7 @@ fn run_system<L: Linear, P: Ports>(
     marked(answer, false)
 }
 
-/// Runs an instruction in an attempt. `back` is the EIP behind it.
+/// Runs an instruction, up to where what it holds is placed or dropped. `back` is the EIP behind it.
 #[inline(always)]
 pub(crate) fn run<L: Linear, P: Ports>(
     regs: &mut Regs,
@@ -166,8 +161,7 @@ pub(crate) fn run<L: Linear, P: Ports>(
     back: u32,
 ) -> Result<Ran, Fault>
     requires spelt { (bytes : List ℕ) × (big : Bool) × Spelt bytes big insn.now }
-    requires mode { has_protection regs.old ≡ false }
-    requires held { (L.seen lin.old).held ≡ [] }
+    requires ready { IsReady (whole regs.old flags.old) (L.seen lin.old) }
     ensures { Runs (rules_of P.Ports) L.pick insn.now (whole regs.old flags.old) back (L.seen lin.old) ports.old result (whole regs.new flags.new) (L.seen lin.new) ports.new }
 {
     if runs_data(insn) {

@@ -5,12 +5,12 @@ ghost use Rattle.std.specs.Bool.{OnTrue};
 ghost use Rattle.mdl_insn.specs.Spelling.{Spelt};
 ghost use Rattle.mdl_state.specs.declared.Regs.{Regs as Registers};
 ghost use Rattle.mdl_state.specs.State.{Mem};
-ghost use Rattle.mdl_state.specs.Accesses.{Keeps};
-ghost use Rattle.mdl_cpu.specs.Segments.{has_protection};
+ghost use Rattle.mdl_cpu.specs.SystemFlags.{TF};
+ghost use Rattle.mdl_state.specs.Bytes.{bit};
 ghost use Rattle.mem_iface.specs.Rules.{rules_of};
 ghost use Rattle.mdl_step.specs.Step.{is_covered, keeps_resume, landed, resumed, masks, with_control, remapped};
 ghost use Rattle.operands.specs.Whole.{whole};
-ghost use Rattle.cpu_core.specs.Executing.{MayFollow, Passes, Faults};
+ghost use Rattle.cpu_core.specs.Executing.{Passes, Faults};
 ghost use Rattle.cpu_core.specs.Plain.{IsReady};
 
 use crate::boundary::has;
@@ -21,9 +21,7 @@ use mdl_num::with_bit;
 use mdl_state::{Fault, Next, Regs};
 use mem_iface::{Linear, Ports};
 
-/// The numbers of PE and PG in CR0.
-const PROTECTION: u8 = 0;
-
+/// The number of PG in CR0.
 const PAGING: u8 = 31;
 
 /// The numbers of TF and RF in EFLAGS.
@@ -34,13 +32,21 @@ const RESUME: u8 = 16;
 /// L0 to G3 of DR7 lie below this bit.
 const BREAKPOINTS: u32 = 0x100;
 
-/// Real mode, and nothing debugged.
-#[tactic(auto, using(crate::proofs::Modes::modes))]
+/// No breakpoint is enabled.
 #[inline(always)]
 pub(crate) fn is_covered(regs: &Regs) -> bool
     ensures { (flags : ℕ) → result ≡ is_covered (whole regs.now flags) }
 {
-    !has(regs.cr0, PROTECTION) && !has(regs.eflags, TRAP) && regs.dr7 % BREAKPOINTS == 0
+    regs.dr7 % BREAKPOINTS == 0
+}
+
+/// Whether TF asks for a trap behind the next instruction.
+#[tactic(auto, using(crate::proofs::Modes::modes))]
+#[inline(always)]
+pub(crate) fn is_traced(regs: &Regs) -> bool
+    ensures { (flags : ℕ) → result ≡ bit (whole regs.now flags).eflags TF }
+{
+    has(regs.eflags, TRAP)
 }
 
 /// Loads what memory goes by of a control register.
@@ -76,8 +82,8 @@ fn settle<L: Linear>(lin: &mut L, insn: &Insn, regs: &Regs, alone: bool)
     }
 }
 
-/// Runs an instruction: what it leaves is placed, or it faults and changes nothing. `back` is the EIP
-/// behind it.
+/// Runs an instruction: what it leaves is placed, or it faults, in the task whose registers are then
+/// left. `back` is the EIP behind it.
 #[inline(always)]
 pub(crate) fn execute<L: Linear, P: Ports>(
     regs: &mut Regs,
@@ -88,14 +94,12 @@ pub(crate) fn execute<L: Linear, P: Ports>(
     back: u32,
 ) -> Result<Ran, Fault>
     requires spelt { (bytes : List ℕ) × (big : Bool) × Spelt bytes big insn.now }
-    requires mode { has_protection regs.old ≡ false }
     requires ready { IsReady (whole regs.old flags.old) (L.seen lin.old) }
     ensures passes { IfOk result (λ ran. Passes (rules_of P.Ports) L.pick insn.now (whole regs.old flags.old) back (L.seen lin.old) ports.old
         (whole regs.new flags.new) ran.next (L.seen lin.new) ports.new) }
-    ensures follows { IfOk result (λ ran. MayFollow ran.next (whole regs.new flags.new)) }
     ensures alone { IfOk result (λ ran. OnTrue ran.alone (ports.new ≡ ports.old)) }
-    ensures faults { IfErr result (λ fault. Faults L.pick insn.now (whole regs.old flags.old) back (L.seen lin.old) fault) }
-    ensures unchanged { OnErr result ((whole regs.new flags.new ≡ whole regs.old flags.old) × (L.seen lin.new ≡ L.seen lin.old) × (ports.new ≡ ports.old)) }
+    ensures faults { IfErr result (λ fault. Faults L.pick insn.now (whole regs.old flags.old) back (L.seen lin.old) fault (whole regs.new flags.new) (L.seen lin.new)) }
+    ensures board { OnErr result (ports.new ≡ ports.old) }
     ensures ready { IsReady (whole regs.new flags.new) (L.seen lin.new) }
     ensures a20 { (L.seen lin.new).physical.a20 ≡ (L.seen lin.old).physical.a20 }
 {

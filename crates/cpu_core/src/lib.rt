@@ -1,4 +1,4 @@
-//! The processor over any memory and any ports: the steps that are built, in real mode.
+//! The processor over any memory and any ports: a step in every mode, where no breakpoint is enabled.
 //!
 //! The one contract used above: `Cpu::step` makes a step of the written machine for some choice, or
 //! says that the next is not built. Read `mdl_step/specs/Step.antt` first, then `specs/Plain.antt`.

@@ -1,9 +1,11 @@
 //! Steps, and passing over those in which nothing happens. Manual, chapters 9 and 10.
 
-ghost use Rattle.std.specs.Prelude.{◌≡◌, ◌<◌, ◌+◌, ◌-◌, ◌^◌, true};
+ghost use Rattle.std.specs.Prelude.{◌≡◌, ◌<◌, ◌+◌, ◌-◌, ◌^◌, true, false};
 ghost use Rattle.std.specs.Bool.{OnTrue, OnFalse};
+ghost use Rattle.mdl_state.specs.Bytes.{bit};
 ghost use Rattle.mdl_state.specs.Choices.{Meets};
 ghost use Rattle.mdl_state.specs.Serving.{Policy};
+ghost use Rattle.mdl_cpu.specs.SystemFlags.{TF};
 ghost use Rattle.mem_iface.specs.Rules.{rules_of};
 ghost use Rattle.mdl_step.specs.Boundary as rows;
 ghost use Rattle.mdl_step.specs.Boundary.{boundary_rows};
@@ -15,7 +17,7 @@ ghost use Rattle.cpu_core.specs.Turns.{Turned};
 
 use crate::boundary::{Row, Turn, boundary, is_execution, is_idle, lets_in, runs_on};
 use crate::cpu::Cpu;
-use crate::execute::is_covered;
+use crate::execute::{is_covered, is_traced};
 use mdl_state::Activity;
 use mem_iface::{Linear, Ports};
 
@@ -24,12 +26,16 @@ impl<L: Linear, P: Ports> Cpu<L, P> {
     #[inline(always)]
     fn is_usual(&self) -> bool
         ensures covered { OnTrue result (is_covered self.now.state.core.regs ≡ true) }
+        ensures untraced { OnTrue result (bit self.now.state.core.regs.eflags TF ≡ false) }
         ensures executes { OnTrue result (row_of (rules_of P.Ports) self.now ≡ rows.Execute) }
     {
         if !runs_on(self.activity, &self.latches) {
             return false;
         }
         if !is_covered(&self.regs) {
+            return false;
+        }
+        if is_traced(&self.regs) {
             return false;
         }
         if lets_in(&self.regs) {
@@ -47,7 +53,7 @@ impl<L: Linear, P: Ports> Cpu<L, P> {
         boundary(self.activity, wants, &self.regs, &self.latches)
     }
 
-    /// Makes the next step, unless it executes an instruction.
+    /// Makes the next step, unless it executes an instruction with TF 0.
     #[inline(never)]
     fn divert(&mut self) -> Turn
         requires steps { self.old.state.core.steps < 2 ^ 64 - 1 }
@@ -63,6 +69,11 @@ impl<L: Linear, P: Ports> Cpu<L, P> {
             return Turn::Unbuilt;
         }
         if is_execution(next) {
+            if is_traced(&self.regs) {
+                let wrote = self.trace();
+                self.finish(wrote);
+                return Turn::Made;
+            }
             return Turn::Executes;
         }
         self.take(next);
@@ -99,7 +110,7 @@ impl<L: Linear, P: Ports> Cpu<L, P> {
     {
         match self.turn() {
             Turn::Executes => {
-                let wrote = self.execute();
+                let wrote = self.execute(false);
                 self.finish(wrote);
                 true
             }

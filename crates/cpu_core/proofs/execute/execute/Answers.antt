@@ -1,14 +1,12 @@
-use Rattle.std.proofs.Common.{◌≡◌, sym, ap, subst, ◌∙◌}
-use Rattle.mdl_state.specs.declared.Regs.{Regs}
+use Rattle.std.proofs.Common.{sym, ap, subst, ◌∙◌, Ok, Err}
 use Rattle.mdl_state.specs.State.{Mem}
-use Rattle.mdl_state.specs.Serving.{Outcome, Passed, Failed, by_pick}
-use Rattle.mdl_state.specs.Attempt.{finished}
+use Rattle.mdl_state.specs.Serving.{Passed}
+use Rattle.mdl_cpu.specs.Switch.{left}
 use Rattle.mdl_effect.specs.Operands.{After}
-use Rattle.mdl_step.specs.Effects.{effect}
+use Rattle.mdl_step.specs.Step.{remapped}
 use Rattle.operands.specs.Whole.{whole}
-use Rattle.cpu_core.specs.Plain.{IsPlain, IsReady}
-use Rattle.cpu_core.proofs.Covered.{plain_of}
-use Rattle.cpu_core.proofs.Settled.{dropped, placed, remapped_ready}
+use Rattle.cpu_core.specs.Plain.{IsQuiet}
+use Rattle.cpu_core.proofs.Settled.{run_quiet, settled_ready}
 use Rattle.cpu_core.proofs.execute.execute.Goals as goal
 
 pub returns-in-Ok-clause-passes : goal.returns-in-Ok-clause-passes
@@ -22,11 +20,11 @@ returns-in-Ok-clause-passes g c =
     record {
       given = done.given;
       access = done.access;
-      left = g.L.Linear.seen c.commit.new.self;
-      passed = ap (λ (w : Outcome After × Mem). finished w) (sym done.ran) ∙ ap (λ (k : Mem). (Passed after, k)) (sym c.commit.ensures.placed);
+      rest = done.rest;
+      placed = g.L.Linear.seen c.commit.new.self;
+      passed = done.ran ∙ ap (λ (k : Mem). left (Passed after) done.rest k) (sym c.commit.ensures.placed);
       moves = done.moves;
-      plain = subst IsPlain (sym c.commit.ensures.placed)
-          (placed (by_pick g.L.Linear.pick) done.given (effect c.args.insn.now old c.args.back new.eflags) m n (Passed after) (plain_of old m c.requires.ready c.requires.mode) done.ran);
+      quiet = subst IsQuiet (sym c.commit.ensures.placed) (run_quiet g.L.Linear.pick c.args.insn.now old c.args.back done.given new.eflags m n (Ok c.in-Ok.ran) _ c.requires.ready.quiet done.ran);
       mapped = c.settle.ensures c.run.new.flags;
     }
 
@@ -35,38 +33,11 @@ returns-in-Ok-clause-ready g c =
     let done = c.in-Ok.ensures in
     let old = whole c.args.regs.now c.args.flags.now in
     let new = whole c.run.new.regs c.run.new.flags in
+    let insn = c.args.insn.now in
     let m = g.L.Linear.seen c.args.lin.now in
     let n = g.L.Linear.seen c.run.new.lin in
-    let after : After = record { regs = new; next = c.in-Ok.ran.next; access = done.access } in
-    let plain = subst IsPlain (sym c.commit.ensures.placed)
-    (placed (by_pick g.L.Linear.pick) done.given (effect c.args.insn.now old c.args.back new.eflags) m n (Passed after) (plain_of old m c.requires.ready c.requires.mode) done.ran) in
-    subst (λ (k : Mem). IsReady new k) (sym (c.settle.ensures c.run.new.flags))
-    (remapped_ready c.args.insn.now.op c.args.insn.now.a new (g.L.Linear.seen c.commit.new.self) (done.sound c.requires.ready.sound) plain)
-
-pub returns-in-Err-clause-faults : goal.returns-in-Err-clause-faults
-returns-in-Err-clause-faults g c =
-    let done = c.in-Err.ensures in
-    let old = whole c.args.regs.now c.args.flags.now in
-    let new = whole c.run.new.regs c.run.new.flags in
-    let m = g.L.Linear.seen c.args.lin.now in
-    let n = g.L.Linear.seen c.run.new.lin in
-    record {
-      given = done.given;
-      free = new.eflags;
-      failed = ap (λ (w : Outcome After × Mem). finished w) (sym done.ran)
-          ∙ ap (λ (k : Mem). (Failed c.in-Err.fault, k)) (dropped (by_pick g.L.Linear.pick) done.given (effect c.args.insn.now old c.args.back new.eflags) m n (Failed c.in-Err.fault) (plain_of old m c.requires.ready c.requires.mode) done.ran);
-    }
-
-pub returns-in-Err-clause-unchanged : goal.returns-in-Err-clause-unchanged
-returns-in-Err-clause-unchanged g c =
-    let done = c.in-Err.ensures in
-    let old = whole c.args.regs.now c.args.flags.now in
-    let new = whole c.run.new.regs c.run.new.flags in (
-      done.unchanged.0,
-      c.discard.ensures.dropped ∙ dropped (by_pick g.L.Linear.pick) done.given (effect c.args.insn.now old c.args.back new.eflags)
-          (g.L.Linear.seen c.args.lin.now) (g.L.Linear.seen c.run.new.lin) (Failed c.in-Err.fault) (plain_of old (g.L.Linear.seen c.args.lin.now) c.requires.ready c.requires.mode) done.ran,
-      done.unchanged.1,
-    )
+    settled_ready g.L.Linear.pick insn old c.args.back done.given new.eflags new m n (Ok c.in-Ok.ran) (g.L.Linear.seen c.settle.new.lin) _ c.requires.ready.quiet done.ran done.sound done.tables
+    (c.settle.ensures c.run.new.flags ∙ ap (remapped insn.op insn.a new) c.commit.ensures.placed)
 
 pub returns-in-Err-clause-ready : goal.returns-in-Err-clause-ready
 returns-in-Err-clause-ready g c =
@@ -74,6 +45,5 @@ returns-in-Err-clause-ready g c =
     let old = whole c.args.regs.now c.args.flags.now in
     let new = whole c.run.new.regs c.run.new.flags in
     let m = g.L.Linear.seen c.args.lin.now in
-    let same : g.L.Linear.seen c.discard.new.self ≡ m = c.discard.ensures.dropped ∙ dropped (by_pick g.L.Linear.pick) done.given (effect c.args.insn.now old c.args.back new.eflags)
-    m (g.L.Linear.seen c.run.new.lin) (Failed c.in-Err.fault) (plain_of old m c.requires.ready c.requires.mode) done.ran in
-    subst (λ (r : Regs). IsReady r (g.L.Linear.seen c.discard.new.self)) (sym done.unchanged.0) (subst (λ (k : Mem). IsReady old k) (sym same) c.requires.ready)
+    let n = g.L.Linear.seen c.run.new.lin in
+    settled_ready g.L.Linear.pick c.args.insn.now old c.args.back done.given new.eflags new m n (Err c.in-Err.fault) (g.L.Linear.seen c.discard.new.self) _ c.requires.ready.quiet done.ran done.sound done.tables c.discard.ensures.dropped

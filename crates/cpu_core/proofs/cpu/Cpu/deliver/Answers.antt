@@ -1,37 +1,40 @@
-use Rattle.std.proofs.Common.{◌≡◌, false, sym, ap, subst, ◌∙◌}
+use Rattle.std.proofs.Common.{◌≡◌, sym, ap, subst, ◌∙◌}
 use Rattle.mdl_state.specs.declared.Regs.{Regs}
 use Rattle.mdl_state.specs.State.{Mem, Core}
 use Rattle.mdl_state.specs.Machine.{Machine}
 use Rattle.mdl_state.specs.Serving.{Outcome, Passed, by_pick, on}
-use Rattle.mdl_cpu.specs.Segments.{has_protection}
-use Rattle.operands.specs.Whole.{whole}
-use Rattle.cpu_core.specs.Plain.{IsReady}
-use Rattle.cpu_core.proofs.Covered.{plain_of}
-use Rattle.mdl_cpu.specs.Steady.{IsSound}
-use Rattle.mdl_cpu.specs.Delivery.{Arrival, deliver}
-use Rattle.mdl_cpu.proofs.ModeLaws.{real_delivery}
+use Rattle.mdl_cpu.specs.Delivery.{Arrival}
+use Rattle.mdl_cpu.specs.TaskDeliveries.{deliver_by_gate}
 use Rattle.mdl_step.specs.Delivering.{arrived, delivered}
-use Rattle.fault_delivery.specs.Arrivals.{arrival}
-use Rattle.cpu_core.proofs.Settled.{delivered_plain, ready}
+use Rattle.operands.specs.Whole.{whole}
+use Rattle.fault_delivery.proofs.Attempts.{task_ready}
+use Rattle.cpu_core.specs.Plain.{IsReady}
+use Rattle.cpu_core.proofs.Settled.{still_quiet}
 use Rattle.cpu_core.proofs.Arriving.{arrived_as}
 use Rattle.cpu_core.proofs.Families.{whole_unpacked}
 use Rattle.cpu_core.proofs.cpu.Cpu.deliver.Goals as goal
 
+pub deliver-delivered-requires : goal.deliver-delivered-requires
+deliver-delivered-requires g c =
+    let inside = c.self.inside in
+    let m = g.L.Linear.seen inside.code.lin in
+    let packed = record inside.regs { eflags = c.pack-self-inside.result } in
+    let before : packed ≡ whole inside.regs inside.flags = ap (λ e. record inside.regs { eflags = e }) c.pack-self-inside.ensures in
+    let ready = subst (λ (r : Regs). IsReady r m) (sym before) c.self.invariant in
+    record { ready = task_ready packed m ready.sound ready.tables; held = ready.quiet.held }
+
 pub invariant_of-self : goal.invariant_of-self
 invariant_of-self g c =
     let inside = c.self.inside in
-    let old = whole inside.regs inside.flags in
     let packed = record inside.regs { eflags = c.pack-self-inside.result } in
     let m = g.L.Linear.seen inside.code.lin in
     let now = c.deliver-delivered in
     let new = now.new.regs in
     let n = g.L.Linear.seen now.new.lin in
-    let before : packed ≡ old = ap (λ e. record inside.regs { eflags = e }) c.pack-self-inside.ensures in
-    let real : has_protection old ≡ false = subst (λ (x : Machine _). has_protection x.state.core.regs ≡ false) (sym c.self.view_is) c.requires.mode in
+    let before : packed ≡ whole inside.regs inside.flags = ap (λ e. record inside.regs { eflags = e }) c.pack-self-inside.ensures in
+    let ready = subst (λ (r : Regs). IsReady r m) (sym before) c.self.invariant in
     subst (λ (r : Regs). IsReady r n) (sym (ap (whole new) c.unpack-self-inside.ensures ∙ whole_unpacked new))
-    (ready new n (now.ensures.sound (subst IsSound (sym before) c.self.invariant.sound))
-    (delivered_plain (by_pick g.L.Linear.pick) c.args.cause packed m n (arrival now.result new) (plain_of old m c.self.invariant real)
-    (now.ensures.run ∙ real_delivery (by_pick g.L.Linear.pick) c.args.cause packed m real)))
+    (record { sound = now.ensures.sound ready.sound; tables = now.ensures.tables ready.tables; quiet = still_quiet m n ready.quiet now.ensures.watch now.ensures.held })
 
 pub returns-clause-delivered : goal.returns-clause-delivered
 returns-clause-delivered g c =
@@ -41,12 +44,10 @@ returns-clause-delivered g c =
     let now = c.deliver-delivered in
     let new = now.new.regs in
     let n = g.L.Linear.seen now.new.lin in
-    let real : has_protection packed ≡ false = subst (λ (x : Machine _). has_protection x.state.core.regs ≡ false) (sym c.self.view_is) c.requires.mode in
     let before : packed ≡ m.state.core.regs = ap (λ e. record inside.regs { eflags = e }) c.pack-self-inside.ensures in
     let left : Core = record m.state.core { regs = whole new c.unpack-self-inside.result; activity = c.activity_at-self-inside.result; latches = record inside.latches { pending = c.pending_at-self-inside.result } } in
     subst (λ (x : Machine _). delivered (by_pick g.L.Linear.pick) c.args.cause x.state.core x.state.mem ≡ (Passed left, n)) c.self.view_is
     (ap (λ (w : Outcome Arrival × Mem). on w (λ there k. (Passed (arrived m.state.core there), k)))
-    (ap (λ (r : Regs). deliver (by_pick g.L.Linear.pick) c.args.cause r m.state.mem) (sym before)
-    ∙ sym (now.ensures.run ∙ real_delivery (by_pick g.L.Linear.pick) c.args.cause packed m.state.mem real))
+    (ap (λ (r : Regs). deliver_by_gate (by_pick g.L.Linear.pick) c.args.cause r m.state.mem) (sym before) ∙ sym now.ensures.run)
     ∙ ap (λ (k : Core). (Passed k, n)) (arrived_as m.state.core now.result new (whole new c.unpack-self-inside.result) c.activity_at-self-inside.result c.pending_at-self-inside.result
     (ap (whole new) c.unpack-self-inside.ensures ∙ whole_unpacked new) (c.activity_at-self-inside.ensures new) (c.pending_at-self-inside.ensures new)))
