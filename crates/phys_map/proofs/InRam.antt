@@ -12,17 +12,21 @@ use Rattle.phys_map.specs.Sound.{IsSound}
 use Rattle.phys_map.specs.SoundLaws.{set_blank}
 use Rattle.phys_map.proofs.Pages.{gated_more, gated_page, ram_more}
 
+-- so many bytes in a page of RAM lie in RAM
+pub fits : (p : Physical) (at n : ℕ) → IsSound p → at % 0x1000 + n ≤ 0x1000 → is_ram (length p.ram) (gated p.a20 at) ≡ true → gated p.a20 at + n ≤ length p.ram
+fits p at n sound page h = in_list (length p.ram) (gated p.a20 at) n sound.ram (rw (gated_page p.a20 at) page) h
+  where
+    in_list : (size at n : ℕ) → IsRamLength size → at % 0x1000 + n ≤ 0x1000 → is_ram size at ≡ true → at + n ≤ size
+    in_list size at n lengths page h = let least : 0x100000 ≤ size = lengths.least in let whole : size % 0x100000 ≡ 0 = lengths.whole in grind arith
+
 -- an access in a page of RAM lies in RAM
 pub ram_fits : (p : Physical) (at : ℕ) (size : Size) → IsSound p → InPage at size → is_ram (length p.ram) (gated p.a20 at) ≡ true → gated p.a20 at + bytes_of size ≤ length p.ram
-ram_fits p at size sound page h = fits (length p.ram) (gated p.a20 at) (bytes_of size) sound.ram (rw (gated_page p.a20 at) page) h
-  where
-    fits : (size at n : ℕ) → IsRamLength size → at % 0x1000 + n ≤ 0x1000 → is_ram size at ≡ true → at + n ≤ size
-    fits size at n lengths page h = let least : 0x100000 ≤ size = lengths.least in let whole : size % 0x100000 ≡ 0 = lengths.whole in grind arith
+ram_fits p at size sound page h = fits p at (bytes_of size) sound page h
 
 in_ram : (p : Physical) (at n : ℕ) → IsSound p → at % 0x1000 + n < 0x1000 → is_ram (length p.ram) (gated p.a20 at) ≡ true → is_ram (length p.ram) (gated p.a20 (at + n)) ≡ true
 in_ram p at n sound page h = ap (is_ram (length p.ram)) (gated_more p.a20 at n page) ∙ ram_more (length p.ram) (gated p.a20 at) n sound.ram.whole (rw (gated_page p.a20 at) page) ∙ h
 
-byte_ram : (p : Physical) (at n : ℕ) → IsSound p → at % 0x1000 + n < 0x1000 → is_ram (length p.ram) (gated p.a20 at) ≡ true → byte_at p (at + n) ≡ slice_index p.ram (gated p.a20 at + n)
+pub byte_ram : (p : Physical) (at n : ℕ) → IsSound p → at % 0x1000 + n < 0x1000 → is_ram (length p.ram) (gated p.a20 at) ≡ true → byte_at p (at + n) ≡ slice_index p.ram (gated p.a20 at + n)
 unfolding byte_at
 byte_ram p at n sound page h = rw (in_ram p at n sound page h) (ap (slice_index p.ram) (gated_more p.a20 at n page))
 

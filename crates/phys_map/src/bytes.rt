@@ -3,6 +3,7 @@
 ghost use Rattle.std.specs.Prelude.{◌≡◌, ◌≤◌, length};
 ghost use Rattle.mdl_state.specs.Memory.{gated, byte_at, placed, is_ram, from_end};
 ghost use Rattle.mdl_state.specs.Accesses.{KeepsPhysical};
+ghost use Rattle.phys_map.specs.Rom.{rom_back};
 
 use crate::map::PhysMap;
 use mdl_state::{SCREEN_BASE, Size};
@@ -55,6 +56,21 @@ fn from_end(bytes: &[u8], back: usize) -> u8
     bytes[bytes.len() - back]
 }
 
+/// How many bytes before the ROM's end an address stands, where the ROM is there. No RAM is.
+pub(crate) fn rom_back(rom: &[u8], at: u32) -> Option<usize>
+    ensures { result ≡ rom_back rom.now at }
+{
+    let low = rom.len().min(LOW_ROM);
+    if at < MEGABYTE && at as usize >= MEGABYTE as usize - low {
+        return Some((MEGABYTE - at) as usize);
+    }
+    let back = ADDRESSES - at as usize;
+    if back <= rom.len() {
+        return Some(back);
+    }
+    None
+}
+
 impl PhysMap {
     /// The address that leaves the processor.
     pub fn gated(&self, at: u32) -> u32
@@ -72,16 +88,10 @@ impl PhysMap {
         if is_ram(self.ram.size(), at) {
             return self.ram.load(at, Size::B1) as u8;
         }
-        let rom = self.rom.as_slice();
-        let low = rom.len().min(LOW_ROM);
-        if at < MEGABYTE && at as usize >= MEGABYTE as usize - low {
-            return from_end(rom, (MEGABYTE - at) as usize);
+        match rom_back(&self.rom, at) {
+            Some(back) => from_end(&self.rom, back),
+            None => OPEN_BUS,
         }
-        let back = ADDRESSES - at as usize;
-        if back <= rom.len() {
-            return from_end(rom, back);
-        }
-        OPEN_BUS
     }
 
     /// Puts a byte at a physical address.

@@ -6,6 +6,7 @@
 #![tactic(auto)]
 
 mod bytes;
+mod eights;
 mod map;
 mod numbers;
 #[cfg(test)]

@@ -1,8 +1,7 @@
 //! Numbers in physical memory.
 
-ghost use Rattle.std.specs.Prelude.{◌≡◌, ℕ, ◌+◌, ◌/◌, ◌%◌, ◌^◌, ◌<◌, ◌≤◌};
+ghost use Rattle.std.specs.Prelude.{◌≡◌, ◌<◌};
 ghost use Rattle.mdl_state.specs.Bytes.{bound_of};
-ghost use Rattle.mdl_state.specs.Memory.{byte_at};
 ghost use Rattle.mdl_state.specs.Accesses.{KeepsPhysical};
 ghost use Rattle.mem_iface.specs.Numbers.{loaded, stored, InPage};
 
@@ -52,18 +51,6 @@ impl PhysMap {
                 self.place(at + 3, (value / 0x1000000 % 0x100) as u8);
             }
         }
-    }
-}
-
-impl PhysMap {
-    /// The eight bytes from an address below A0000h on, as one number, little endian. Bit 20 of
-    /// these addresses is 0, so the line A20 changes none.
-    #[tactic(auto, using(crate::proofs::InRam::conventional, crate::proofs::InRam::some_ram))]
-    pub fn load_eight(&self, at: u32) -> u64
-        requires { at + 8 ≤ 0xA0000 }
-        ensures { (i : ℕ) → i < 8 → byte_at self.now (at + i) ≡ result / 256 ^ i % 256 }
-    {
-        self.ram.load_eight(at)
     }
 }
 

@@ -94,6 +94,33 @@ fn each_range_has_its_memory(rt: HostRuntime) -> Result<(), Fail> {
 }
 
 #[test]
+fn eight_bytes_of_a_page_come_at_once(rt: HostRuntime) -> Result<(), Fail> {
+    let mut map = marked(rt.alloc())?;
+    for (a20, at, eight) in [
+        (true, 0x00000000, Some(0x0000000000000011)),
+        (true, 0x0009FFF8, Some(0x2200000000000000)),
+        (true, 0x000A0000, None),
+        (true, 0x000B8000, Some(0x0000000000000033)),
+        (true, 0x000E0000, Some(0x0000000000000090)),
+        (true, 0x000FFFF8, Some(0xAF00000000000000)),
+        (true, 0x000FFFF9, None),
+        (true, 0x00100000, Some(0x0000000000000044)),
+        (true, 0x001FFFF8, Some(0x5500000000000000)),
+        (true, 0x00200000, None),
+        (true, 0xFFFD0000, Some(0x0000000000000080)),
+        (true, 0xFFFFFFF8, Some(0xAF00000000000000)),
+        (true, 0xFFFFFFFF, None),
+        (false, 0x00100000, Some(0x0000000000000011)),
+        (false, 0x001FFFF8, Some(0xAF00000000000000)),
+        (false, 0xFFFFFFF8, None),
+    ] {
+        map.set_a20(a20);
+        assert_eq!(rt; map.eight_in_page(at), eight, "at {at:#x}, A20 {a20}");
+    }
+    Ok(())
+}
+
+#[test]
 fn writes_outside_ram_are_lost(rt: HostRuntime) -> Result<(), Fail> {
     let mut map = map(rt.alloc())?;
     for (at, before) in [
