@@ -1,5 +1,5 @@
 -- Accesses with paging off.
-use Rattle.std.specs.Prelude.{ℕ, ◌≡◌, ◌<◌, ◌≤◌, ◌+◌, ◌/◌, ◌%◌, ◌^◌, Bool, true, false, not, if◌then◌else◌, refl, List, []}
+use Rattle.std.specs.Prelude.{ℕ, ◌≡◌, ◌<◌, ◌≤◌, ◌+◌, ◌/◌, ◌%◌, ◌^◌, Bool, true, false, not, if◌then◌else◌, refl, List, [], Option, Some, None, IfSome}
 use Rattle.std.proofs.Common.{arith, ap, sym, subst, ◌∙◌}
 use Rattle.mdl_state.specs.declared.Size.{Size}
 use Rattle.mdl_state.specs.declared.Size.TheVariants.{B1, B2, B4}
@@ -7,7 +7,7 @@ use Rattle.mdl_state.specs.declared.Who.{Who}
 use Rattle.mdl_state.specs.declared.Access.{Access}
 use Rattle.mdl_state.specs.declared.Access.TheVariants.{Read, Write}
 use Rattle.mdl_state.specs.declared.Place.{Place}
-use Rattle.mdl_state.specs.State.{Mem}
+use Rattle.mdl_state.specs.State.{Mem, Physical}
 use Rattle.mdl_state.specs.Bytes.{bytes_of}
 use Rattle.mdl_state.specs.Memory.{byte_at}
 use Rattle.mdl_state.specs.declared.Watch.{Watch}
@@ -49,13 +49,19 @@ pub direct_read : (serve : Serve) (m : Mem) (lin : ℕ) (size : Size) (who : Who
 direct_read serve m lin size who value off clear none page v = read_here serve m lin size who value off clear none (here lin size page) v
 
 -- eight bytes of physical memory are those that are read
-pub near_read : (serve : Serve) (m : Mem) (lin : ℕ) (who : Who) (word : ℕ) → m.paging ≡ false → m.watch ≡ [] → m.held ≡ [] → lin + 8 ≤ 0xA0000
+pub near_read : (serve : Serve) (m : Mem) (lin : ℕ) (who : Who) (word : ℕ) → m.paging ≡ false → m.watch ≡ [] → m.held ≡ [] → lin + 8 ≤ 2 ^ 32
     → ((i : ℕ) → i < 8 → byte_at m.physical (lin + i) ≡ word / 256 ^ i % 256) → (i : ℕ) → i < 8 → (Passed (word / 256 ^ i % 256), m) ≡ read_at serve m ((lin + i) % 2 ^ 32) B1 who
 unfolding loaded
 near_read serve m lin who word off clear none low bytes i small =
     let same : (lin + i) % 2 ^ 32 ≡ lin + i = omega (arith, low, small) in
     subst (λ (at : ℕ). (Passed (word / 256 ^ i % 256), m) ≡ read_at serve m at B1 who) (sym same)
     (read_here serve m (lin + i) B1 who (word / 256 ^ i % 256) off clear none (omega arith) (sym (bytes i small)))
+
+-- and so are eight bytes that are found, if they are
+pub ahead_read : (serve : Serve) (m : Mem) (p : Physical) (lin : ℕ) (found : Option ℕ) → m.paging ≡ false → m.watch ≡ [] → m.held ≡ [] → m.physical ≡ p → IfSome found (λ word. lin + 8 ≤ 2 ^ 32)
+    → IfSome found (λ word. (i : ℕ) → i < 8 → byte_at p (lin + i) ≡ word / 256 ^ i % 256) → IfSome found (λ word. (who : Who) (i : ℕ) → i < 8 → (Passed (word / 256 ^ i % 256), m) ≡ read_at serve m ((lin + i) % 2 ^ 32) B1 who)
+ahead_read serve m p lin (Some word) off clear none is within bytes = λ who. near_read serve m lin who word off clear none within (λ i small. ap (λ (q : Physical). byte_at q (lin + i)) is ∙ bytes i small)
+ahead_read serve m p lin None off clear none is within bytes = tt
 
 pub direct_write : (serve : Serve) (m : Mem) (lin : ℕ) (size : Size) (value : ℕ) (who : Who) (place : Place) → m.paging ≡ false → m.watch ≡ [] → place ≡ record { first = lin; second = (lin + bytes_here lin size) % 2 ^ 32; cut = bytes_here lin size } → (Passed tt, held_at m place size value) ≡ written_at serve m lin size value who
 unfolding written_at unpaged

@@ -1,9 +1,11 @@
 //! Accesses.
 
-ghost use Rattle.std.specs.Prelude.{◌≡◌, ◌+◌, ◌-◌, ◌<◌, ◌≤◌, ◌^◌, ◌%◌, [], length, OnOk, OnErr, IfOk, true, false};
+ghost use Rattle.std.specs.Prelude.{◌≡◌, ℕ, ◌+◌, ◌-◌, ◌/◌, ◌<◌, ◌≤◌, ◌^◌, ◌%◌, [], length, OnOk, OnErr, IfOk, IfSome, true, false};
 ghost use Rattle.std.specs.Bool.{OnTrue};
+ghost use Rattle.mdl_state.specs.declared.Size.TheVariants.{B1};
+ghost use Rattle.mdl_state.specs.declared.Who.{Who};
 ghost use Rattle.mdl_state.specs.Bytes.{bytes_of, bound_of};
-ghost use Rattle.mdl_state.specs.Serving.{by_pick, outcome};
+ghost use Rattle.mdl_state.specs.Serving.{by_pick, outcome, Passed};
 ghost use Rattle.mdl_state.specs.Accesses.{translated, got, read_at, written_at, bytes_here, Keeps, IsPlace, HasRoom};
 ghost use Rattle.mdl_state.specs.Policy.{plain_item, meets_plain};
 ghost use Rattle.mdl_state.specs.PolicyLaws.{plain_item_meets};
@@ -49,6 +51,15 @@ impl Tlb {
         Ok(())
     }
 
+    /// Whether accesses are those of physical memory as it stands.
+    #[inline(always)]
+    fn is_plain(&self) -> bool
+        ensures paging { OnTrue result (self.now.paging ≡ false) }
+        ensures held { OnTrue result (self.now.held ≡ []) }
+    {
+        self.held.is_empty() && !self.paging
+    }
+
     /// Whether eight bytes are those of conventional memory as it stands.
     #[inline(always)]
     fn is_near(&self, lin: u32) -> bool
@@ -56,7 +67,20 @@ impl Tlb {
         ensures held { OnTrue result (self.now.held ≡ []) }
         ensures low { OnTrue result (lin + 8 ≤ 0xA0000) }
     {
-        lin <= LAST_EIGHT && self.held.is_empty() && !self.paging
+        lin <= LAST_EIGHT && self.is_plain()
+    }
+
+    /// The eight bytes from an address on, of one page of physical memory as it stands: code of the ROM,
+    /// and of RAM above 1 MiB. It is cold, so that it lies out of the way of conventional memory.
+    #[cold]
+    #[inline(never)]
+    fn ahead(&self, lin: u32) -> Option<u64>
+        ensures { IfSome result (λ word. (who : Who) (i : ℕ) → i < 8 → (Passed (word / 256 ^ i % 256), self.now) ≡ read_at (by_pick plain_item) self.now ((lin + i) % 2 ^ 32) B1 who) }
+    {
+        if !self.is_plain() {
+            return None;
+        }
+        self.phys.eight_in_page(lin)
     }
 
     /// Whether an access is one of physical memory as it stands, in one page.
@@ -65,7 +89,7 @@ impl Tlb {
         ensures held { OnTrue result (self.now.held ≡ []) }
         ensures page { OnTrue result (lin % 0x1000 + 4 ≤ 0x1000) }
     {
-        lin % PAGE <= LAST_WHOLE && self.held.is_empty() && !self.paging
+        lin % PAGE <= LAST_WHOLE && self.is_plain()
     }
 }
 
@@ -108,10 +132,10 @@ impl Linear for Tlb {
 
     #[inline(always)]
     fn near(&self, lin: u32, _who: Who) -> Option<u64> {
-        if !self.is_near(lin) {
-            return None;
+        if self.is_near(lin) {
+            return Some(self.phys.load_eight(lin));
         }
-        Some(self.phys.load_eight(lin))
+        self.ahead(lin)
     }
 
     #[tactic(auto, using(crate::proofs::Direct::direct_write))]

@@ -73,6 +73,22 @@ fn an_access_goes_on_behind_the_border_of_a_page(rt: HostRuntime) -> Result<(), 
 }
 
 #[test]
+fn code_of_the_rom_is_at_hand_unless_a_write_is_held(rt: HostRuntime) -> Result<(), Fail> {
+    let mut memory = machine(rt.alloc())?;
+    for (at, eight) in [
+        (0x000FFFF8, Some(0xAFAEF4F4F4F4F4F4)),
+        (0x00100000, Some(0x0000000034333231)),
+        (0xFFFFFFF8, Some(0xAFAEF4F4F4F4F4F4)),
+        (0xFFFFFFF9, None),
+    ] {
+        assert_eq!(rt; memory.near(at, Who::User), eight, "at {at:#x}");
+    }
+    write(&mut memory, 0x2000, Size::B1, 0x11)?;
+    assert_eq!(rt; memory.near(0x000FFFF8, Who::User), None);
+    Ok(())
+}
+
+#[test]
 fn a_held_write_is_seen_by_reads_and_not_by_the_map(rt: HostRuntime) -> Result<(), Fail> {
     let mut memory = machine(rt.alloc())?;
     write(&mut memory, 0x2000, Size::B4, 0x44332211)?;
