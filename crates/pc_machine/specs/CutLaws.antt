@@ -7,10 +7,11 @@ use Rattle.mdl_state.specs.declared.EventKind.{EventKind}
 use Rattle.mdl_state.specs.declared.EventKind.TheVariants.{Key, Pulse, Nmi, Reset}
 use Rattle.mdl_state.specs.declared.Fault.{Fault}
 use Rattle.mdl_state.specs.declared.Next.{Next}
+use Rattle.mdl_state.specs.declared.Regs.{Regs}
 use Rattle.mdl_state.specs.declared.Next.TheVariants as next
 use Rattle.mdl_state.specs.State.{Mem, Core, Choice}
 use Rattle.mdl_state.specs.Machine.{Rules, Machine}
-use Rattle.mdl_state.specs.Serving.{Serve, Policy, Outcome, Passed, Failed, NoStep, on, handled, by_list, with_items}
+use Rattle.mdl_state.specs.Serving.{Serve, Policy, Outcome, Passed, Failed, NoStep, on, by_list, with_items}
 use Rattle.mdl_state.specs.Watches.{unwatched}
 use Rattle.mdl_insn.specs.declared.instruction.Insn.{Insn}
 use Rattle.mdl_effect.specs.Operands.{After}
@@ -19,10 +20,11 @@ use Rattle.mdl_board.specs.Board.{BoardState}
 use Rattle.mdl_text.specs.Script.{RisesFrom}
 use Rattle.mdl_step.specs.Boundary.{Boundary, Idle, Trap, Break, Nmi as NmiRow, Line, Execute}
 use Rattle.mdl_cpu.specs.Causes.{fault_cause, with_address}
-use Rattle.mdl_cpu.specs.Delivery.{Arrival, deliver}
+use Rattle.mdl_cpu.specs.Delivery.{Arrival}
+use Rattle.mdl_cpu.specs.TaskDeliveries.{deliver_by_gate}
 use Rattle.mdl_step.specs.Delivering.{arrived, delivered}
 use Rattle.mdl_step.specs.Fetching.{Code, Instruction, Refused}
-use Rattle.mdl_step.specs.Step.{Step, Does, EndsBy, Comes, row_of, passed_by, faulted, executed, attempted, behind, completed, Delivers, at_trap, at_break, at_nmi}
+use Rattle.mdl_step.specs.Step.{Step, Does, EndsBy, Comes, row_of, passed_by, faulted, ended, executed, attempted, behind, completed, Delivers, at_trap, at_break, at_nmi}
 use Rattle.mdl_step.specs.Run as run
 use Rattle.mdl_step.specs.Run.{events_at, Steps}
 use Rattle.mdl_step.specs.RunLaws.{StepsFor, walks_in}
@@ -44,7 +46,7 @@ arrives core (Failed fault, m) = tt
 arrives core (NoStep, m) = tt
 
 delivery : (serve : Serve) (cause : Cause) (core : Core) (m : Mem) → Counts core.steps (delivered serve cause core m)
-delivery serve cause core m = arrives core (deliver serve cause core.regs m)
+delivery serve cause core m = arrives core (deliver_by_gate serve cause core.regs m)
 
 passes : (serve : Serve) (core : Core) (insn : Insn) (after : After) (back hits : ℕ) (m : Mem) (n : Next) → Counts core.steps (passed_by n serve core insn after back hits m)
 passes serve core insn after back hits m (next.Soft vector) = delivery serve _ (completed core insn after back hits) m
@@ -53,14 +55,14 @@ passes serve core insn after back hits m _ = refl
 failure : (serve : Serve) (core : Core) (fault : Fault) (m : Mem) → Counts core.steps (faulted serve core fault m)
 failure serve core fault m = delivery serve (fault_cause core.regs fault) (record core { regs = with_address core.regs fault; latches = record core.latches { hold = 0 } }) m
 
-comes_of : (n : ℕ) (o : Outcome After × Mem) (k : After → Mem → Outcome Core × Mem) (l : Fault → Mem → Outcome Core × Mem) → ((after : After) (m : Mem) → Counts n (k after m)) → ((fault : Fault) (m : Mem) → Counts n (l fault m)) → Counts n (handled o k l)
-comes_of n (Passed after, m) k l p q = p after m
-comes_of n (Failed fault, m) k l p q = q fault m
-comes_of n (NoStep, m) k l p q = tt
+ending : (o : Outcome After) (serve : Serve) (core : Core) (insn : Insn) (back : ℕ) (r : Regs) (m : Mem) → Counts core.steps (ended o serve core insn back r m)
+ending (Passed after) serve core insn back r m = passes serve core insn after back m.hits _ after.next
+ending (Failed fault) serve core insn back r m = failure serve (record core { regs = r }) fault (unwatched m)
+ending NoStep serve core insn back r m = tt
 
 execution : (serve : Serve) (core : Core) (insn : Insn) (back given free : ℕ) (m : Mem) → Counts core.steps (executed serve core insn back given free m)
-execution serve core insn back given free m = comes_of core.steps (attempted serve core insn back given free m) _ _
-    (λ after n. passes serve core insn after back n.hits _ after.next) (λ fault n. failure serve core fault (unwatched n))
+execution serve core insn back given free m = let w = attempted serve core insn back given free m in
+    ending w.0.outcome serve core insn back w.0.regs w.1
 
 code_counts : {B : Type 0} (rules : Rules B) (serve : Serve) (core : Core) (code : Code) (free : ℕ) (m : Mem) (old new : B) (done : Core) (n : Mem) → Comes rules serve core code free m old (Passed done, n) new → done.steps ≡ core.steps
 code_counts rules serve core (Instruction insn count) free m old new done n c = subst (Counts core.steps) c.2 (execution serve core insn (behind core.regs count) c.0 free m)
