@@ -25,7 +25,7 @@ use Rattle.operands.specs.Whole.{whole}
 use Rattle.fault_delivery.specs.declared.deliveries.Delivered.{Delivered}
 use Rattle.fault_delivery.specs.declared.deliveries.Delivered.TheVariants.{Done, Shutdown}
 use Rattle.fault_delivery.specs.Arrivals.{arrival}
-use Rattle.cpu_core.specs.Plain.{IsPlain, IsReady}
+use Rattle.cpu_core.specs.Plain.{IsPlain, IsQuiet, IsReady}
 use Rattle.cpu_core.proofs.Families.{whole_unpacked}
 
 -- ---- a delivery
@@ -48,6 +48,32 @@ real_sound r control flags level = record {
   paged_mode = λ e. absurd (false≢true (ap (λ (n : ℕ). bit n 31) (sym control) ∙ e));
   level = omega (arith, level);
   flags = rw flags (record { one = refl; three = refl; five = refl; fifteen = refl; above = omega arith });
+}
+
+-- and those of protected mode with paging, at level 0
+pub paged_sound : (r : Regs) → r.cr0 ≡ 0x80000001 → r.eflags ≡ 2 → r.cpl ≡ 0 → IsSound r
+paged_sound r control flags level = record {
+  real = λ _. level;
+  virtual_level = λ e. absurd (false≢true (ap (λ (n : ℕ). bit n 17) (sym flags) ∙ e));
+  virtual_mode = λ e. absurd (false≢true (ap (λ (n : ℕ). bit n 17) (sym flags) ∙ e));
+  paged_mode = λ _. ap (λ (n : ℕ). bit n 0) control;
+  level = omega (arith, level);
+  flags = rw flags (record { one = refl; three = refl; five = refl; fifteen = refl; above = omega arith });
+}
+
+-- over memory that pages as they say
+pub unpaged_ready : (r : Regs) (m : Mem) → r.cr0 ≡ 0 → r.cr3 ≡ 0 → IsSound r → IsPlain m → IsReady r m
+unpaged_ready r m control directory sound plain = record {
+  sound = sound;
+  tables = record { paging = plain.paging ∙ ap (λ (n : ℕ). bit n 31) (sym control); cr3 = plain.cr3 ∙ sym directory };
+  quiet = plain.quiet;
+}
+
+pub paged_ready : (r : Regs) (m : Mem) → r.cr0 ≡ 0x80000001 → r.cr3 ≡ 0x5000 → IsSound r → m.paging ≡ true → m.cr3 ≡ 0x5000 → IsQuiet m → IsReady r m
+paged_ready r m control directory sound paging tables quiet = record {
+  sound = sound;
+  tables = record { paging = paging ∙ ap (λ (n : ℕ). bit n 31) (sym control); cr3 = tables ∙ sym directory };
+  quiet = quiet;
 }
 
 -- the registers after a reset, over plain memory

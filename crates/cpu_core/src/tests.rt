@@ -3,12 +3,12 @@
 ghost use Rattle.std.specs.Prelude.{◌≡◌, ◌≤◌, ◌<◌, ◌+◌, ◌^◌, ⊤, true, length, IfOk};
 ghost use Rattle.phys_map.specs.Sound.{IsBlank};
 ghost use Rattle.mdl_cpu.specs.Steady.{IsSound};
-ghost use Rattle.cpu_core.specs.Plain.{IsPlain};
+ghost use Rattle.cpu_core.specs.Plain.{IsPlain, IsQuiet};
 
 use crate::Cpu;
 use guest_ram::Ram;
 use mdl_state::{Activity, Hidden, Latches, Regs, Size};
-use mem_iface::{Phys, Ports};
+use mem_iface::{Linear, Phys, Ports};
 use phys_map::PhysMap;
 use std::alloc::{AllocError, Global};
 use std::test::Fail;
@@ -156,6 +156,9 @@ fn a_step_takes_the_first_row_that_holds(rt: HostRuntime) -> Result<(), Fail> {
         (0xF0F6, false, [NEVER, NEVER], 4, 0x1000, 0, Activity::Running, false),
         (0xCC, false, [NEVER, NEVER], 2, 0x2020, 0xFFFA, Activity::Running, false),
         (0xCC, false, [NEVER, NEVER], 4, 0x1001, 0, Activity::Running, false),
+        // PUSH 0102h and POPF: the trap of TF comes behind the next instruction, to 0:0.
+        (0x90_9D01_0268, false, [NEVER, NEVER], 4, 0x1005, 0, Activity::Running, false),
+        (0x90_9D01_0268, false, [NEVER, NEVER], 5, 0, 0xFFFA, Activity::Running, false),
         // OUT 80h, AL: the board asks for a reset.
         (0x80E6, false, [NEVER, NEVER], 2, 0xFFF0, 0, Activity::Running, false),
     ] {
@@ -174,7 +177,11 @@ fn a_step_takes_the_first_row_that_holds(rt: HostRuntime) -> Result<(), Fail> {
 /// Registers of real mode, at 0:1000h.
 #[tactic(auto, using(crate::proofs::Arriving::real_sound))]
 fn regs() -> Regs
-    ensures { IsSound result }
+    ensures sound { IsSound result }
+    ensures control { result.cr0 ≡ 0 }
+    ensures directory { result.cr3 ≡ 0 }
+    ensures flags { result.eflags ≡ 2 }
+    ensures level { result.cpl ≡ 0 }
 {
     let data = Hidden {
         sel: 0,
@@ -203,7 +210,7 @@ fn regs() -> Regs
     }
 }
 
-#[tactic(auto, using(crate::proofs::Settled::ready))]
+#[tactic(auto, using(crate::proofs::Arriving::unpaged_ready))]
 #[test]
 fn a_halted_processor_takes_the_nmi_that_waits(rt: HostRuntime) -> Result<(), Fail> {
     let latches = Latches {
@@ -231,5 +238,101 @@ fn a_halted_processor_takes_the_nmi_that_waits(rt: HostRuntime) -> Result<(), Fa
         pending: 0,
     };
     assert_eq!(rt; cpu.latches(), behind);
+    Ok(())
+}
+
+/// Memory that pages, with a directory at 5000h and a table at 6000h. Page 1 and page 3 are at their own addresses, may be
+/// written, and were not accessed; the others are not present. In page 1 are eight bytes of code, at 1000h, a descriptor of
+/// flat code of 32 bits, at 1208h, and the gate of vector 14, at 1370h: an interrupt gate to 8:1100h.
+fn paged(alloc: Global, code: u64) -> Result<Tlb, AllocError>
+    ensures paging { IfOk result (λ memory. memory.paging ≡ true) }
+    ensures directory { IfOk result (λ memory. memory.cr3 ≡ 0x5000) }
+    ensures quiet { IfOk result (λ memory. IsQuiet memory) }
+    ensures a20 { IfOk result (λ memory. memory.physical.a20 ≡ true) }
+{
+    let ram = ram(alloc, 0x10_0000)?;
+    let rom = vec![in alloc; 0xF4; 0x1000]?;
+    let mut map = PhysMap::new(ram, rom);
+    map.store(0x1000, Size::B4, (code & 0xFFFF_FFFF) as u32);
+    map.store(0x1004, Size::B4, (code >> 32) as u32);
+    map.store(0x1208, Size::B4, 0x0000_FFFF);
+    map.store(0x120C, Size::B4, 0x00CF_9B00);
+    map.store(0x1370, Size::B4, 0x0008_1100);
+    map.store(0x1374, Size::B4, 0x0000_8E00);
+    map.store(0x5000, Size::B4, 0x6003);
+    map.store(0x6004, Size::B4, 0x1003);
+    map.store(0x600C, Size::B4, 0x3003);
+    let mut memory = Tlb::new(map);
+    memory.load_cr3(0x5000);
+    memory.set_paging(true);
+    Ok(memory)
+}
+
+/// Registers of level 0 over it, at 8:1000h, with flat segments of 32 bits.
+#[tactic(auto, using(crate::proofs::Arriving::paged_sound))]
+fn flat(esp: u32) -> Regs
+    ensures sound { IsSound result }
+    ensures control { result.cr0 ≡ 0x80000001 }
+    ensures directory { result.cr3 ≡ 0x5000 }
+{
+    let data = Hidden {
+        sel: 0x10,
+        base: 0,
+        limit: 0xFFFF_FFFF,
+        rights: 0xC093,
+    };
+    let code = Hidden {
+        sel: 8,
+        rights: 0xC09B,
+        ..data
+    };
+    Regs {
+        gpr: [0x1122_3344, 0, 0, 0, esp, 0, 0, 0],
+        seg: [data, code, data, data, data, data],
+        gdt_base: 0x1200,
+        gdt_limit: 0x17,
+        idt_base: 0x1300,
+        idt_limit: 0x77,
+        cr0: 0x8000_0001,
+        cr3: 0x5000,
+        ..regs()
+    }
+}
+
+/// The doubleword at an address.
+fn word(memory: &Tlb, at: u32) -> u32 {
+    let map = memory.phys();
+    u32::from_le_bytes([
+        map.byte(at),
+        map.byte(at.wrapping_add(1)),
+        map.byte(at.wrapping_add(2)),
+        map.byte(at.wrapping_add(3)),
+    ])
+}
+
+#[rattlefmt::skip]
+#[tactic(auto, using(crate::proofs::Arriving::paged_ready))]
+#[test]
+fn a_page_fault_leaves_nothing_of_its_instruction(rt: HostRuntime) -> Result<(), Fail> {
+    let latches = Latches { nmi: false, masked: false, hold: 0, pending: 0 };
+    // The code, its first byte lowest, and ESP; then CR2 and ESP.
+    for (code, esp, address, top) in [
+        // PUSHAD: the fifth push is to page 2.
+        (0x60, 0x3010, 0x2FFC, 0x3000),
+        // MOV [3FFEh], EAX: half of it is on page 4.
+        (0x3FFE_0589, 0x1800, 0x4000, 0x17F0),
+    ] {
+        let mut cpu = Cpu::start_at(paged(rt.alloc(), code)?, asking(false), flat(esp), Activity::Running, latches);
+        assert!(rt; cpu.step());
+        let regs = cpu.regs();
+        assert_eq!(rt; (regs.cr2, regs.gpr[4], regs.eip), (address, top, 0x1100));
+        let memory = cpu.lin();
+        // The code of the fault, EIP, CS and EFLAGS.
+        for (offset, value) in [(0, 2), (4, 0x1000), (8, 8), (12, 0x1_0002)] {
+            assert_eq!(rt; word(memory, top.wrapping_add(offset)), value);
+        }
+        // What was there before, and the entry of page 3, which was accessed and written.
+        assert_eq!(rt; (word(memory, 0x3FFC), word(memory, 0x600C)), (0, 0x3063));
+    }
     Ok(())
 }
