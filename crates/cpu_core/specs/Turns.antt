@@ -1,5 +1,5 @@
 -- What a row of the boundary does, over a memory with a rule that serves its pages, and for some choice.
-use Rattle.std.specs.Prelude.{◌≡◌, ◌+◌, ℕ, true, false}
+use Rattle.std.specs.Prelude.{◌≡◌, ◌+◌, ℕ, Bool, true}
 use Rattle.mdl_state.specs.State.{Mem, Choice}
 use Rattle.mdl_state.specs.Machine.{Rules, Machine}
 use Rattle.mdl_state.specs.Bytes.{bit}
@@ -39,11 +39,11 @@ pub record SomeTurn {B : Type 0} (row : Boundary) (rules : Rules B) (policy : Po
   pub does : Does row rules policy m choice n
   pub walks : n.state.mem.walks ≡ walks_after choice.served m.state.mem.walks
 
--- an instruction is executed next, with TF 0, and nothing was done yet
-pub record Goes {B : Type 0} (rules : Rules B) (m n : Machine B) : Type 0 where
+-- an instruction is executed next, with TF as told, and nothing was done yet
+pub record Goes {B : Type 0} (traced : Bool) (rules : Rules B) (m n : Machine B) : Type 0 where
   pub same : n ≡ m
   pub covered : is_covered n.state.core.regs ≡ true
-  pub untraced : bit n.state.core.regs.eflags TF ≡ false
+  pub trap : bit n.state.core.regs.eflags TF ≡ traced
   pub row : row_of rules n ≡ Execute
 
 -- a step was made, for some choice that meets each policy that the rule of the memory meets
@@ -54,6 +54,6 @@ pub record Makes {B : Type 0} (rules : Rules B) (pick : Pick) (m n : Machine B) 
 
 -- a step up to where an instruction is executed
 abbrev pub Turned : {B : Type 0} → Turn → Rules B → Pick → Machine B → Machine B → Type 0
-Turned turns.Executes rules pick m n = Goes rules m n
+Turned (turns.Executes traced) rules pick m n = Goes traced rules m n
 Turned turns.Made rules pick m n = Makes rules pick m n
 Turned turns.Unbuilt rules pick m n = IsUnbuilt rules m × (n ≡ m)

@@ -35,8 +35,8 @@ pub(crate) enum Row {
 /// What a step is, up to where an instruction is executed.
 #[derive(Clone, Copy)]
 pub(crate) enum Turn {
-    /// An instruction is executed next, with TF 0.
-    Executes,
+    /// An instruction is executed next, and whether TF is 1 as it begins.
+    Executes(bool),
     /// It is made.
     Made,
     /// It is not built.

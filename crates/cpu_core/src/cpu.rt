@@ -248,20 +248,6 @@ impl<L: Linear, P: Ports> Cpu<L, P> {
         }
     }
 
-    /// The same, where TF is 1.
-    #[inline(never)]
-    pub(crate) fn trace(&mut self) -> bool
-        requires covered { is_covered self.old.state.core.regs ≡ true }
-        requires traced { bit self.old.state.core.regs.eflags TF ≡ true }
-        ensures executed { Executed (rules_of P.Ports) L.pick self.old self.new }
-        ensures steps { self.new.state.core.steps ≡ self.old.state.core.steps }
-        ensures served { self.new.state.mem.served ≡ [] }
-        ensures a20 { self.new.state.mem.physical.a20 ≡ self.old.state.mem.physical.a20 }
-        ensures board { OnFalse result (self.new.board ≡ self.old.board) }
-    {
-        self.execute(true)
-    }
-
     /// Delivers the debug trap that is pending.
     fn trap(&mut self)
         ensures delivered { delivered (by_pick L.pick) (event_cause self.old.state.core.regs 1) (at_trap self.old.state.core) self.old.state.mem

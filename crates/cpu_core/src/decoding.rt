@@ -37,7 +37,7 @@ fn is_wide(regs: &Regs) -> bool
 }
 
 /// The instruction at the front of eight bytes, where it has no more. The answer is its length.
-#[inline(always)]
+#[inline(never)]
 fn decode_eight(bytes: u64, big: bool, insn: &mut Insn) -> Option<u8>
     ensures { IfSome result (λ count. Spells bytes big insn.new count) }
 {
@@ -48,22 +48,6 @@ fn decode_eight(bytes: u64, big: bool, insn: &mut Insn) -> Option<u8>
     }
 }
 
-/// That of code of 16 bits.
-#[inline(never)]
-fn decode_narrow(bytes: u64, insn: &mut Insn) -> Option<u8>
-    ensures { IfSome result (λ count. Spells bytes false insn.new count) }
-{
-    decode_eight(bytes, false, insn)
-}
-
-/// That of code of 32 bits.
-#[inline(never)]
-fn decode_wide(bytes: u64, insn: &mut Insn) -> Option<u8>
-    ensures { IfSome result (λ count. Spells bytes true insn.new count) }
-{
-    decode_eight(bytes, true, insn)
-}
-
 /// The instruction at CS:EIP, where it is among eight bytes that memory has at hand.
 #[inline(always)]
 fn decode_near<L: Linear>(code: &Code<L>, regs: &Regs, insn: &mut Insn) -> Option<u8>
@@ -71,13 +55,7 @@ fn decode_near<L: Linear>(code: &Code<L>, regs: &Regs, insn: &mut Insn) -> Optio
         Fetches (by_pick L.pick) (whole regs.now flags) (L.seen code.now.lin) (Instruction insn.new count) (L.seen code.now.lin)) }
 {
     match code.near(regs) {
-        Some(bytes) => {
-            if is_wide(regs) {
-                decode_wide(bytes, insn)
-            } else {
-                decode_narrow(bytes, insn)
-            }
-        }
+        Some(bytes) => decode_eight(bytes, is_wide(regs), insn),
         None => None,
     }
 }

@@ -53,7 +53,7 @@ impl<L: Linear, P: Ports> Cpu<L, P> {
         boundary(self.activity, wants, &self.regs, &self.latches)
     }
 
-    /// Makes the next step, unless it executes an instruction with TF 0.
+    /// Makes the next step, unless it executes an instruction.
     #[inline(never)]
     fn divert(&mut self) -> Turn
         requires steps { self.old.state.core.steps < 2 ^ 64 - 1 }
@@ -69,12 +69,7 @@ impl<L: Linear, P: Ports> Cpu<L, P> {
             return Turn::Unbuilt;
         }
         if is_execution(next) {
-            if is_traced(&self.regs) {
-                let wrote = self.trace();
-                self.finish(wrote);
-                return Turn::Made;
-            }
-            return Turn::Executes;
+            return Turn::Executes(is_traced(&self.regs));
         }
         self.take(next);
         self.finish(false);
@@ -89,7 +84,7 @@ impl<L: Linear, P: Ports> Cpu<L, P> {
         ensures { Turned result (rules_of P.Ports) L.pick self.old self.new }
     {
         if self.is_usual() {
-            return Turn::Executes;
+            return Turn::Executes(false);
         }
         self.divert()
     }
@@ -109,8 +104,8 @@ impl<L: Linear, P: Ports> Cpu<L, P> {
         ensures a20 { P.gate self.new.board ≡ self.new.state.mem.physical.a20 }
     {
         match self.turn() {
-            Turn::Executes => {
-                let wrote = self.execute(false);
+            Turn::Executes(traced) => {
+                let wrote = self.execute(traced);
                 self.finish(wrote);
                 true
             }

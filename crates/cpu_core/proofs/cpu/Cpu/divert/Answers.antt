@@ -24,24 +24,6 @@ returns-then-not-is_covered g c =
     let uncovered : is_covered c.args.self.now.state.core.regs ≡ false = subst (λ (x : Machine _). is_covered x.state.core.regs ≡ false) c.self.view_is (sym (c.is_covered.ensures inside.flags) ∙ c.if-not-is_covered.true) in
     (unbuilt_row (rules_of g.P.Ports) c.args.self.now (told c.row-next.result) c.row-next.ensures c.if-is_idle.ensures.busy uncovered, refl)
 
-pub trace-wrote-requires-clause-covered : goal.trace-wrote-requires-clause-covered
-trace-wrote-requires-clause-covered g c =
-    let inside = c.self.inside in
-    subst (λ (x : Machine _). is_covered x.state.core.regs ≡ true) c.self.view_is (sym (c.is_covered.ensures inside.flags) ∙ c.if-not-is_covered.false)
-
-pub returns-then-is_traced : goal.returns-then-is_traced
-returns-then-is_traced g c =
-    let inside = c.self.inside in
-    let cover : is_covered c.args.self.now.state.core.regs ≡ true = subst (λ (x : Machine _). is_covered x.state.core.regs ≡ true) c.self.view_is (sym (c.is_covered.ensures inside.flags) ∙ c.if-not-is_covered.false) in
-    let row = covered_row (rules_of g.P.Ports) c.args.self.now (told c.row-next.result) c.row-next.ensures cover ∙ c.if-is_execution.ensures.executes in
-    let mid = c.trace-wrote.new.self in
-    record {
-      made = λ policy meets. stepped (rules_of g.P.Ports) policy rows.Execute c.args.self.now mid c.finish-then-is_traced.new.self row
-          (some_turn (rules_of g.P.Ports) g.L.Linear.pick policy meets c.args.self.now mid cover c.trace-wrote.ensures.served rows.Execute (λ e. cc) c.trace-wrote.ensures.executed) c.finish-then-is_traced.ensures.ends;
-      count = c.finish-then-is_traced.ensures.count ∙ ap (λ (k : ℕ). k + 1) c.trace-wrote.ensures.steps;
-      a20 = c.finish-then-is_traced.ensures.a20;
-    }
-
 pub returns-then-is_execution : goal.returns-then-is_execution
 returns-then-is_execution g c =
     let inside = c.self.inside in
@@ -49,7 +31,7 @@ returns-then-is_execution g c =
     record {
       same = refl;
       covered = cover;
-      untraced = subst (λ (x : Machine _). bit x.state.core.regs.eflags TF ≡ false) c.self.view_is (sym (c.is_traced.ensures inside.flags) ∙ c.if-is_traced.false);
+      trap = subst (λ (x : Machine _). bit x.state.core.regs.eflags TF ≡ c.is_traced.result) c.self.view_is (sym (c.is_traced.ensures inside.flags));
       row = covered_row (rules_of g.P.Ports) c.args.self.now (told c.row-next.result) c.row-next.ensures cover ∙ c.if-is_execution.ensures.executes;
     }
 

@@ -8,7 +8,7 @@ use Rattle.cpu_core.proofs.Turns.{some_turn, stepped}
 use Rattle.cpu_core.proofs.cpu.Cpu.step.Goals as goal
 
 pub execute-wrote-requires : goal.execute-wrote-requires
-execute-wrote-requires g c = record { covered = c.in-Executes.ensures.covered; traced = c.in-Executes.ensures.untraced }
+execute-wrote-requires g c = record { covered = c.in-Executes.ensures.covered; traced = c.in-Executes.ensures.trap }
 
 pub finish-requires : goal.finish-requires
 finish-requires g c =
