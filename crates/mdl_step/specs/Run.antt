@@ -1,5 +1,5 @@
 -- Runs of the machine: steps, with the events that are due at each count of steps.
-use Rattle.std.specs.Prelude.{◌≡◌, ◌<◌, ℕ, ◌+◌, ◌-◌, ◌^◌, ◌==◌, List, [], ◌∷◌, length, min}
+use Rattle.std.specs.Prelude.{◌≡◌, ℕ, ◌+◌, ◌-◌, ◌^◌, ◌==◌, List, [], ◌∷◌, length, min}
 use Rattle.std.specs.List.{filter}
 use Rattle.mdl_state.specs.declared.Event.{Event}
 use Rattle.mdl_state.specs.declared.EventKind.{EventKind}
@@ -7,7 +7,7 @@ use Rattle.mdl_state.specs.State.{Item, Old, Walk, Choice}
 use Rattle.mdl_state.specs.Machine.{Rules, Machine}
 use Rattle.mdl_state.specs.Serving.{Policy}
 use Rattle.mdl_step.specs.Events.{applied}
-use Rattle.mdl_step.specs.Step.{Step, IsUnbuilt}
+use Rattle.mdl_step.specs.Step.{Step}
 
 -- the events of a count, in list order
 abbrev pub events_at : ℕ → List Event → List Event
@@ -31,14 +31,6 @@ module _ {B : Type 0} (rules : Rules B) (on_board : EventKind → B → B) (even
   -- A run, with as many choices as steps. An event of a count above the last is not applied.
   abbrev pub Run : Policy → Machine B → List Choice → Machine B → Type 0
   Run policy m choices n = Steps policy (after_events m) choices n
-
-  -- some run ends, before so many steps, where the next step is not built
-  pub record ReachesUnbuilt (policy : Policy) (m : Machine B) (steps : ℕ) : Type 0 where
-    pub choices : List Choice
-    pub last : Machine B
-    pub before : length choices < steps
-    pub run : Run policy m choices last
-    pub unbuilt : IsUnbuilt rules last
 
 -- ---- walks
 

@@ -1,5 +1,5 @@
 -- One step of the machine over any board. Manual, chapters 9, 10 and 12.
-use Rattle.std.specs.Prelude.{◌≡◌, ℕ, ◌+◌, ◌%◌, ◌^◌, ◌==◌, Bool, true, false, if◌then◌else◌, [], IsTrue, bit_or}
+use Rattle.std.specs.Prelude.{◌≡◌, ℕ, ◌+◌, ◌%◌, ◌^◌, ◌==◌, Bool, true, false, if◌then◌else◌, [], bit_or}
 use Rattle.std.specs.FinMap.{empty}
 use Rattle.mdl_state.specs.declared.Regs.{Regs}
 use Rattle.mdl_state.specs.declared.Fault.{Fault}
@@ -33,10 +33,6 @@ use Rattle.mdl_step.specs.Fetching.{Code, Instruction, Refused, Fetches}
 use Rattle.mdl_step.specs.Boundary.{Boundary, Idle, Trap, Break, Nmi, Line, Execute, boundary}
 use Rattle.mdl_step.specs.Delivering.{with_debug_bits, BT, delivered}
 use Rattle.mdl_step.specs.Events.{after_reset}
-
--- no breakpoint is enabled. Own: Steps that are not built.
-abbrev pub is_covered : Regs → Bool
-is_covered r = r.dr7 % 0x100 == 0
 
 -- one step more
 abbrev pub counted : Core → Core
@@ -172,7 +168,6 @@ Comes rules serve core (Refused fault) free m old w new = (new ≡ old) × (faul
 -- What is at CS:EIP is fetched, and comes to this processor and memory for this choice of undefined flags. The
 -- items serve the fetch and then all else, in order and wholly.
 pub record Executes {B : Type 0} (rules : Rules B) (policy : Policy) (m : Machine B) (choice : Choice) (n : Machine B) : Type 0 where
-  pub covered : IsTrue (is_covered m.state.core.regs)
   pub code : Code
   pub mid : Mem
   pub fetched : Fetches (by_list policy) m.state.core.regs (with_items m.state.mem choice.served) code mid
@@ -183,7 +178,6 @@ pub record Executes {B : Type 0} (rules : Rules B) (policy : Policy) (m : Machin
 
 -- a cause is delivered to this processor, by these items in order and wholly
 pub record Delivers {B : Type 0} (policy : Policy) (cause : Cause) (core : Core) (m : Machine B) (choice : Choice) (n : Machine B) : Type 0 where
-  pub covered : IsTrue (is_covered m.state.core.regs)
   pub comes : delivered (by_list policy) cause core (with_items m.state.mem choice.served) ≡ (Passed n.state.core, n.state.mem)
   pub wholly : n.state.mem.served ≡ []
 
@@ -241,14 +235,3 @@ pub record Step {B : Type 0} (rules : Rules B) (policy : Policy) (m : Machine B)
   pub mid : Machine B
   pub does : Does (row_of rules m) rules policy m choice mid
   pub ends : EndsBy (rules.asks mid.board) rules mid n
-
--- ---- what is not built. Own: Steps that are not built.
-
--- something happens, and the registers are not covered
-abbrev pub UnbuiltBy : Boundary → Regs → Type 0
-UnbuiltBy Idle r = ⊥
-UnbuiltBy _ r = is_covered r ≡ false
-
--- no step from here is built
-abbrev pub IsUnbuilt : {B : Type 0} → Rules B → Machine B → Type 0
-IsUnbuilt rules m = UnbuiltBy (row_of rules m) m.state.core.regs
