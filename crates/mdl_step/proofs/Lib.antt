@@ -4,3 +4,4 @@ pub mod TaskLaws
 pub mod WholeLaws
 pub mod StepLaws
 pub mod TurnLaws
+pub mod BareLaws
