@@ -106,21 +106,7 @@ module _ (events : List Event) where
   unmoved : (k : ℕ) (m mid : Machine BoardState) → mid.state.core.steps ≡ k → events_at k events ≡ [] → after_events events mid ≡ mid
   unmoved k m mid at none = ap (λ (j : ℕ). run.all_applied board_rules on_board events (events_at j events) mid) at ∙ ap (λ (es : List Event). run.all_applied board_rules on_board events es mid) none
 
-  -- steps with no event between them are steps of a list that has none of their counts
-  quiet_steps : (choices : List Choice) (m n : Machine BoardState) → ((k : ℕ) → m.state.core.steps < k → k ≤ m.state.core.steps + length choices → events_at k events ≡ [])
-      → Steps board_rules on_board [] run_policy m choices n → Steps board_rules on_board events run_policy m choices n
-  quiet_steps [] m n quiet ran = ran
-  quiet_steps (choice ∷ choices) m n quiet ran =
-      let mid = ran.0 in
-      let count = step_counts board_rules run_policy m choice mid ran.1 in
-      let none = unmoved (m.state.core.steps + 1) m mid count (quiet (m.state.core.steps + 1) (omega arith) (omega arith)) in (
-        mid,
-        ran.1,
-        subst (λ (x : Machine BoardState). Steps board_rules on_board events run_policy x choices n) (sym none)
-            (quiet_steps choices mid n (λ k p q. quiet k (omega (arith, count, p)) (omega (arith, count, q))) ran.2),
-      )
-
-  -- or none but of the last, whose events are then applied
+  -- steps with no event between them, and then the events of the last count, are steps of the list
   burst_steps : (choices : List Choice) (m n : Machine BoardState) → 0 < length choices → ((k : ℕ) → m.state.core.steps < k → k < m.state.core.steps + length choices → events_at k events ≡ [])
       → Steps board_rules on_board [] run_policy m choices n → Steps board_rules on_board events run_policy m choices (after_events events n)
   burst_steps [] m n some quiet ran = absurd (omega (arith, some))
@@ -135,17 +121,7 @@ module _ (events : List Event) where
             (burst_steps (next ∷ choices) mid n (omega arith) (λ k p q. quiet k (omega (arith, count, p)) (omega (arith, count, q))) ran.2),
       )
 
-  -- so many steps of the list, and then others with no event between them
-  pub steps_stalled : (k n : ℕ) (a m x : Machine BoardState) → StepsFor board_rules on_board events run_policy k a m → StepsFor board_rules on_board [] run_policy n m x
-      → ((j : ℕ) → m.state.core.steps < j → j ≤ m.state.core.steps + n → events_at j events ≡ []) → StepsFor board_rules on_board events run_policy (k + n) a x
-  steps_stalled k n a m x one two quiet = record {
-    choices = one.choices ++ two.choices;
-    count = length-append one.choices two.choices ∙ omega (arith, one.count, two.count);
-    ran = steps_join events one.choices two.choices a m x one.ran (quiet_steps two.choices m x (λ j p q. quiet j p (omega (arith, two.count, q))) two.ran);
-    walks = two.walks ∙ ap (walks_in two.choices) one.walks ∙ sym (walks_join one.choices two.choices a.state.mem.walks);
-  }
-
-  -- the same, with the events of the last count
+  -- so many steps of the list, and then others with no event between them, but those of the last count
   pub steps_burst : (k n : ℕ) (a m mid x : Machine BoardState) → StepsFor board_rules on_board events run_policy k a m → StepsFor board_rules on_board [] run_policy n m mid
       → 0 < n → ((j : ℕ) → m.state.core.steps < j → j < m.state.core.steps + n → events_at j events ≡ []) → x ≡ after_events events mid
       → StepsFor board_rules on_board events run_policy (k + n) a x

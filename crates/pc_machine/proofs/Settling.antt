@@ -1,6 +1,5 @@
 -- A step ends with no reset asked for.
 use Rattle.std.proofs.Common.{◌≡◌, Bool, true, false, refl, ap, ◌∙◌}
-use Rattle.std.specs.Bool.{OnTrue, OnFalse}
 use Rattle.mdl_state.specs.Machine.{Machine}
 use Rattle.mdl_board.specs.Board.{BoardState}
 use Rattle.mdl_step.specs.RunLaws.{SomeStep}
@@ -12,7 +11,6 @@ ended : (asks : Bool) (m n : Machine BoardState) → m.board.asks ≡ asks → E
 ended true m n is e = ap (λ (b : BoardState). b.asks) e.0
 ended false m n is e = ap (λ (x : Machine BoardState). x.board.asks) e ∙ is
 
--- behind a step, and where none is made
-pub still : (made : Bool) (m n : Machine BoardState) → m.board.asks ≡ false → OnTrue made (SomeStep board_rules run_policy m n) → OnFalse made (n ≡ m) → n.board.asks ≡ false
-still true m n is step same = let s = step.step in ended s.mid.board.asks s.mid n refl s.ends
-still false m n is step same = ap (λ (x : Machine BoardState). x.board.asks) same ∙ is
+-- behind a step
+pub still : (m n : Machine BoardState) → m.board.asks ≡ false → SomeStep board_rules run_policy m n → n.board.asks ≡ false
+still m n is step = let s = step.step in ended s.mid.board.asks s.mid n refl s.ends

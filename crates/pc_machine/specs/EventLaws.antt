@@ -11,9 +11,8 @@ use Rattle.mdl_text.specs.Script.{RisesFrom}
 use Rattle.mdl_step.specs.Run as run
 use Rattle.mdl_step.specs.Run.{events_at}
 use Rattle.mdl_step.specs.RunLaws.{StepsFor, walks_in}
-use Rattle.mdl_step.specs.Step.{IsUnbuilt}
 use Rattle.mdl_step.specs.Computer.{board_rules, on_board, happens, run_policy}
-use Rattle.pc_machine.specs.Runs.{due_by, RanFor, StopsBefore}
+use Rattle.pc_machine.specs.Runs.{due_by, RanFor}
 
 -- events one after the other
 abbrev all_applied : List Event → Machine BoardState → Machine BoardState
@@ -184,15 +183,5 @@ ran_for events steps m n s = record {
   run = s.ran;
   walks = s.walks ∙ ap (walks_in s.choices) (events_walk events (events_at m.state.core.steps events) m);
 }
-
--- and where the next step is not built, one that ends there
-pub stops : (events : List Event) (steps done : ℕ) (m mid n : Machine BoardState) → n ≡ mid → done < steps → StepsFor board_rules on_board events run_policy done (after_events events m) mid → mid.state.core.steps ≡ m.state.core.steps + done → IsUnbuilt board_rules mid → StopsBefore events steps m n
-stops events steps done m mid n same before s count unbuilt = subst (StopsBefore events steps m) (sym same) (record {
-  done = done;
-  before = before;
-  ran = ran_for events done m mid s;
-  count = count;
-  unbuilt = unbuilt;
-})
 
 pub ruleset events = (widened, due_start, due_next, due_end, split_next, split_end)

@@ -1,13 +1,12 @@
 -- Runs of the whole machine: for some choices, whose walks are counted.
-use Rattle.std.specs.Prelude.{◌≡◌, ℕ, ◌+◌, ◌<◌, List, [], length, nat_le}
+use Rattle.std.specs.Prelude.{◌≡◌, ℕ, List, length, nat_le}
 use Rattle.std.specs.List.{filter}
 use Rattle.mdl_state.specs.declared.Event.{Event}
 use Rattle.mdl_state.specs.State.{Choice}
 use Rattle.mdl_state.specs.Machine.{Machine}
 use Rattle.mdl_board.specs.Board.{BoardState}
-use Rattle.mdl_step.specs.Step.{IsUnbuilt}
 use Rattle.mdl_step.specs.Run.{Run}
-use Rattle.mdl_step.specs.RunLaws.{StepsFor, walks_in}
+use Rattle.mdl_step.specs.RunLaws.{walks_in}
 use Rattle.mdl_step.specs.Computer.{board_rules, on_board, run_policy}
 
 -- how many events have a count up to this
@@ -20,19 +19,3 @@ pub record RanFor (events : List Event) (steps : ℕ) (m n : Machine BoardState)
   pub as_many : length choices ≡ steps
   pub run : Run board_rules on_board events run_policy m choices n
   pub walks : n.state.mem.walks ≡ walks_in choices m.state.mem.walks
-
--- a run that ends before so many steps, where the next step is not built
-pub record StopsBefore (events : List Event) (steps : ℕ) (m n : Machine BoardState) : Type 0 where
-  pub done : ℕ
-  pub before : done < steps
-  pub ran : RanFor events done m n
-  pub count : n.state.core.steps ≡ m.state.core.steps + done
-  pub unbuilt : IsUnbuilt board_rules n
-
--- steps with no event between them that end before so many, where the next step is not built
-pub record Stalls (steps : ℕ) (m n : Machine BoardState) : Type 0 where
-  pub done : ℕ
-  pub before : done < steps
-  pub ran : StepsFor board_rules on_board [] run_policy done m n
-  pub count : n.state.core.steps ≡ m.state.core.steps + done
-  pub unbuilt : IsUnbuilt board_rules n

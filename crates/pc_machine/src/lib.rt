@@ -15,4 +15,3 @@ mod tests;
 pub use building::BuildError;
 pub use laws::{a_run_goes_on_with_the_rest_of_the_events, a_run_may_be_cut_anywhere};
 pub use pc::Pc;
-pub use running::Unbuilt;

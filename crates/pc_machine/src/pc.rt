@@ -4,7 +4,7 @@ ghost use Rattle.std.specs.Prelude.{◌≡◌, ◌<◌, ◌≤◌, ◌+◌, ◌^
 ghost use Rattle.std.specs.Bool.{OnTrue, OnFalse};
 ghost use Rattle.mdl_step.specs.RunLaws.{SomeStep};
 ghost use Rattle.mdl_step.specs.Boundary.{Idle};
-ghost use Rattle.mdl_step.specs.Step.{IsUnbuilt, row_of};
+ghost use Rattle.mdl_step.specs.Step.{row_of};
 ghost use Rattle.mdl_step.specs.Computer.{board_rules, run_policy, happens};
 ghost use Rattle.cpu_core.specs.Passing.{later};
 ghost use Rattle.pc_machine.specs.Settled.{IsSettled};
@@ -45,16 +45,14 @@ impl Pc {
         let _ = &self.cpu;
     }
 
-    /// Makes one step. Answers false where the next step is not built, and then changes nothing.
+    /// Makes one step.
     #[inline(always)]
-    pub fn step(&mut self) -> bool
+    pub fn step(&mut self)
         requires { self.old.state.core.steps < 10 ^ 15 }
-        ensures made { OnTrue result (SomeStep board_rules run_policy self.old self.new) }
-        ensures count { OnTrue result (self.new.state.core.steps ≡ self.old.state.core.steps + 1) }
-        ensures unbuilt { OnFalse result (IsUnbuilt board_rules self.old) }
-        ensures unchanged { OnFalse result (self.new ≡ self.old) }
+        ensures made { SomeStep board_rules run_policy self.old self.new }
+        ensures count { self.new.state.core.steps ≡ self.old.state.core.steps + 1 }
     {
-        self.cpu.step()
+        self.cpu.step();
     }
 
     /// Passes over so many steps at once, where nothing happens in them. Answers whether it did, and

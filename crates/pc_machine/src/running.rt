@@ -1,23 +1,15 @@
 //! Runs, with events at their counts of steps.
 
-ghost use Rattle.std.specs.Prelude.{◌≡◌, ◌≤◌, ◌<◌, ◌+◌, ◌^◌, [], drop, length, IfOk, IfErr, OnOk, OnErr, IfSome};
-ghost use Rattle.std.specs.Bool.{OnTrue, OnFalse};
+ghost use Rattle.std.specs.Prelude.{◌≡◌, ◌≤◌, ◌<◌, ◌+◌, ◌^◌, [], drop, length, IfSome};
 ghost use Rattle.mdl_text.specs.Script.{RisesFrom};
 ghost use Rattle.mdl_step.specs.Run.{after_events};
 ghost use Rattle.mdl_step.specs.RunLaws.{StepsFor};
 ghost use Rattle.mdl_step.specs.Computer.{board_rules, on_board, run_policy};
-ghost use Rattle.pc_machine.specs.Runs.{due_by, RanFor, Stalls, StopsBefore};
+ghost use Rattle.pc_machine.specs.Runs.{due_by, RanFor};
 ghost use Rattle.pc_machine.specs.EventLaws.{Split, next_at};
 
 use crate::pc::Pc;
 use mdl_state::Event;
-
-/// A run that ended early: the next step is not built.
-#[derive(Clone, Copy, Debug, PartialEq, Eq)]
-pub struct Unbuilt {
-    /// How many events were applied.
-    pub applied: usize,
-}
 
 /// The event at an index, where it has this count.
 fn next_event(events: &[Event], at: usize, count: u64) -> Option<Event>
@@ -64,50 +56,38 @@ impl Pc {
         done
     }
 
-    /// Makes so many steps with no event between them. Answers false where it comes to a step that is
-    /// not built, and stops there.
-    fn advance(&mut self, steps: u64) -> bool
+    /// Makes so many steps with no event between them.
+    fn advance(&mut self, steps: u64)
         requires { self.old.state.core.steps + steps ≤ 10 ^ 15 }
-        ensures made { OnTrue result (StepsFor board_rules on_board [] run_policy steps self.old self.new) }
-        ensures count { OnTrue result (self.new.state.core.steps ≡ self.old.state.core.steps + steps) }
-        ensures stopped { OnFalse result (Stalls steps self.old self.new) }
+        ensures made { StepsFor board_rules on_board [] run_policy steps self.old self.new }
+        ensures count { self.new.state.core.steps ≡ self.old.state.core.steps + steps }
     {
         for done in 0..steps {
             if self.pass(steps - done) {
-                return true;
+                return;
             }
-            if !self.step() {
-                return false;
-            }
+            self.step();
         }
-        true
     }
 
     /// Makes so many steps. An event is applied when the count of steps is its own, before the next
     /// step, in the list's order; those of the last count are applied behind the last step, and later
     /// ones never. Answers how many events were applied.
-    ///
-    /// Where it comes to a step that is not built, it stops there, with the events of that count
-    /// applied.
-    pub fn run(&mut self, events: &[Event], steps: u64) -> Result<usize, Unbuilt>
+    pub fn run(&mut self, events: &[Event], steps: u64) -> usize
         requires count { self.old.state.core.steps + steps ≤ 10 ^ 15 }
         requires rises { RisesFrom self.old.state.core.steps events.now }
-        ensures ran { OnOk result (RanFor events.now steps self.old self.new) }
-        ensures count { OnOk result (self.new.state.core.steps ≡ self.old.state.core.steps + steps) }
-        ensures applied { IfOk result (λ applied. applied ≡ due_by self.new.state.core.steps events.now) }
-        ensures stopped { OnErr result (StopsBefore events.now steps self.old self.new) }
-        ensures stopped_applied { IfErr result (λ stop. stop.applied ≡ due_by self.new.state.core.steps events.now) }
+        ensures ran { RanFor events.now steps self.old self.new }
+        ensures count { self.new.state.core.steps ≡ self.old.state.core.steps + steps }
+        ensures applied { result ≡ due_by self.new.state.core.steps events.now }
     {
         let mut applied = self.apply(events, 0);
         let mut done = 0;
         while done < steps {
             let burst = steps_before_next(events, applied, self.steps(), steps - done);
-            if !self.advance(burst) {
-                return Err(Unbuilt { applied });
-            }
+            self.advance(burst);
             applied = self.apply(events, applied);
             done += burst;
         }
-        Ok(applied)
+        applied
     }
 }

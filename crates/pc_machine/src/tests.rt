@@ -2,7 +2,7 @@
 
 ghost use Rattle.std.specs.Prelude.{◌≡◌, ◌≤◌, length, IfOk};
 
-use crate::{BuildError, Pc, Unbuilt};
+use crate::{BuildError, Pc};
 use mdl_state::{Activity, Event, EventKind, Seg};
 use std::alloc::{AllocError, Global};
 use std::test::Fail;
@@ -43,7 +43,7 @@ fn a_machine_starts_at_the_reset_vector_and_halts(rt: HostRuntime) -> Result<(),
     assert_eq!(rt; pc.crt(0x0C), 0);
     assert_eq!(rt; pc.disk_len(), 512);
     assert_eq!(rt; pc.disk_byte(511), 0x5A);
-    assert!(rt; pc.step());
+    pc.step();
     assert_eq!(rt; pc.activity(), Activity::Halted);
     assert_eq!(rt; pc.regs().eip, 0xFFF1);
     assert_eq!(rt; pc.steps(), 1);
@@ -87,7 +87,7 @@ fn an_event_comes_at_its_count_and_those_of_the_last_behind_the_last_step(
             at,
             kind: EventKind::Reset,
         };
-        assert_eq!(rt; pc.run(&[reset], steps), Ok(applied));
+        assert_eq!(rt; pc.run(&[reset], steps), applied);
         assert_eq!(rt; pc.regs().eip, eip);
         assert_eq!(rt; pc.steps(), steps);
     }
@@ -114,7 +114,7 @@ fn a_key_waits_in_the_controller_unless_a_reset_comes_behind_it(
                 kind: second,
             },
         ];
-        assert_eq!(rt; pc.run(&events, 3), Ok(2));
+        assert_eq!(rt; pc.run(&events, 3), 2);
         assert_eq!(rt; pc.reg(0), status);
     }
     Ok(())
@@ -130,7 +130,7 @@ const SETTINGS: [u8; 20] = [
 #[test]
 fn a_reset_puts_chips_and_processor_at_boot_and_leaves_ram(rt: HostRuntime) -> Result<(), Fail> {
     let mut pc = machine(rt.alloc(), &SETTINGS)?;
-    assert_eq!(rt; pc.run(&[], 9), Ok(0));
+    assert_eq!(rt; pc.run(&[], 9), 0);
     assert_eq!(rt; pc.crt(0x0C), 0x12);
     assert_eq!(rt; pc.phys_byte(0x101234), 0xAA);
     assert_eq!(rt; pc.phys_byte(0xFFFF_FFF0), 0xFF);
@@ -147,23 +147,31 @@ fn a_reset_puts_chips_and_processor_at_boot_and_leaves_ram(rt: HostRuntime) -> R
     Ok(())
 }
 
-// MOV EAX,1; MOV DR7,EAX: with a breakpoint enabled the next step is not built.
+// MOV EAX,FFFFF013h; MOV DR0,EAX; MOV EAX,1; MOV DR7,EAX; NOP; and HLT at F013h, before which vector 1 comes: its
+// handler is 0000:0000, and FLAGS, CS and IP are below 10000h.
 #[test]
-fn a_run_stops_where_the_next_step_is_not_built(rt: HostRuntime) -> Result<(), Fail> {
-    let mut pc = machine(rt.alloc(), &[0x66, 0xB8, 1, 0, 0, 0, 0x0F, 0x23, 0xF8])?;
+fn a_run_goes_on_in_the_handler_of_a_breakpoint(rt: HostRuntime) -> Result<(), Fail> {
+    let code = [
+        0x66, 0xB8, 0x13, 0xF0, 0xFF, 0xFF, 0x0F, 0x23, 0xC0, 0x66, 0xB8, 1, 0, 0, 0, 0x0F, 0x23,
+        0xF8, 0x90,
+    ];
+    let mut pc = machine(rt.alloc(), &code)?;
     let events = [
         Event {
-            at: 3,
+            at: 6,
             kind: EventKind::Key(0x1E),
         },
         Event {
-            at: 4,
+            at: 8,
             kind: EventKind::Reset,
         },
     ];
-    assert_eq!(rt; pc.run(&events, 10), Err(Unbuilt { applied: 1 }));
-    assert_eq!(rt; pc.steps(), 3);
-    assert!(rt; !pc.step());
-    assert_eq!(rt; pc.regs().dr7, 1);
+    assert_eq!(rt; pc.run(&events, 7), 1);
+    assert_eq!(rt; pc.steps(), 7);
+    assert_eq!(rt; pc.activity(), Activity::Running);
+    assert_eq!(rt; pc.regs().eip, 0);
+    assert_eq!(rt; pc.regs().dr6 & 15, 1);
+    assert_eq!(rt; pc.phys_byte(0xFFFA), 0x13);
+    assert_eq!(rt; pc.phys_byte(0xFFFB), 0xF0);
     Ok(())
 }

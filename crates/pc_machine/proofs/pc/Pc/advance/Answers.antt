@@ -2,7 +2,6 @@ use Rattle.std.proofs.Common.{◌≡◌, ℕ, ◌+◌, ◌-◌, [], refl, ap, sy
 use Rattle.mdl_state.specs.Machine.{Machine}
 use Rattle.mdl_board.specs.Board.{BoardState}
 use Rattle.mdl_step.specs.RunLaws.{StepsFor, SomeStep, steps_none, steps_more}
-use Rattle.mdl_step.specs.Step.{IsUnbuilt}
 use Rattle.mdl_step.specs.Computer.{board_rules, on_board, run_policy}
 use Rattle.cpu_core.specs.Passing.{later}
 use Rattle.pc_machine.proofs.Bursts.{steps_idle}
@@ -26,26 +25,14 @@ returns-then-pass-clause-made c =
 pub returns-then-pass-clause-count : goal.returns-then-pass-clause-count
 returns-then-pass-clause-count c = omega (arith, ap (λ (x : Machine BoardState). x.state.core.steps) c.if-pass.ensures.passed, c.loop-done.invariant.steps, c.loop-done-test.true)
 
-pub returns-then-not-step-clause-stopped : goal.returns-then-not-step-clause-stopped
-returns-then-not-step-clause-stopped c =
-    let held = c.loop-done.invariant in
-    let same : c.step.new.self ≡ c.loop-done.self = c.if-not-step.ensures.unchanged ∙ c.if-pass.ensures.unchanged in
-    record {
-      done = c.loop-done.done;
-      before = c.loop-done-test.true;
-      ran = subst (λ (x : Machine BoardState). StepsFor board_rules on_board [] run_policy c.loop-done.done c.args.self.now x) (sym same) held.ran;
-      count = ap (λ (x : Machine BoardState). x.state.core.steps) same ∙ held.steps;
-      unbuilt = subst (λ (x : Machine BoardState). IsUnbuilt board_rules x) (sym c.if-not-step.ensures.unchanged) c.if-not-step.ensures.unbuilt;
-    }
-
 pub loop-done-preserved : goal.loop-done-preserved
 loop-done-preserved c =
     let held = c.loop-done.invariant in
     let same = c.if-pass.ensures.unchanged in
     record {
       ran = steps_more board_rules on_board [] run_policy c.loop-done.done c.args.self.now c.loop-done.self c.step.new.self c.step.new.self held.ran
-          (subst (λ (x : Machine BoardState). SomeStep board_rules run_policy x c.step.new.self) same c.if-not-step.ensures.made) refl;
-      steps = omega (arith, c.if-not-step.ensures.count, ap (λ (x : Machine BoardState). x.state.core.steps) same, held.steps);
+          (subst (λ (x : Machine BoardState). SomeStep board_rules run_policy x c.step.new.self) same c.step.ensures.made) refl;
+      steps = omega (arith, c.step.ensures.count, ap (λ (x : Machine BoardState). x.state.core.steps) same, held.steps);
     }
 
 pub returns-clause-made : goal.returns-clause-made

@@ -4,8 +4,8 @@ use Rattle.mdl_board.specs.Board.{BoardState}
 use Rattle.mdl_step.specs.RunLaws.{StepsFor, steps_none}
 use Rattle.mdl_step.specs.Computer.{board_rules, on_board, run_policy}
 use Rattle.pc_machine.specs.Runs.{RanFor}
-use Rattle.pc_machine.specs.EventLaws.{Split, after_events, ran_for, stops, split_count}
-use Rattle.pc_machine.proofs.Bursts.{none_between, split_between, steps_burst, steps_stalled}
+use Rattle.pc_machine.specs.EventLaws.{Split, after_events, ran_for, split_count}
+use Rattle.pc_machine.proofs.Bursts.{none_between, split_between, steps_burst}
 use Rattle.pc_machine.proofs.pc.Pc.run.Goals as goal
 
 pub loop-done-init : goal.loop-done-init
@@ -25,29 +25,6 @@ steps_before_next-burst-requires c = record {
   most = omega (arith, c.loop-done-test.true);
 }
 
-pub returns-then-not-advance-clause-stopped : goal.returns-then-not-advance-clause-stopped
-returns-then-not-advance-clause-stopped c =
-    let held = c.loop-done.invariant in
-    let next = c.steps_before_next-burst.ensures in
-    let stalls = c.if-not-advance.ensures.stopped in
-    let here = c.loop-done.self.state.core.steps in
-    let split : Split (here + 1) (here + c.steps_before_next-burst.result) c.args.events.now c.loop-done.applied = subst (λ (k : ℕ). Split (k + 1) (k + c.steps_before_next-burst.result) c.args.events.now c.loop-done.applied) c.steps.ensures next.split in
-    stops c.args.events.now c.args.steps (c.loop-done.done + stalls.done) c.args.self.now c.advance.new.self c.advance.new.self refl
-    (omega (arith, stalls.before, next.most, c.loop-done-test.true))
-    (steps_stalled c.args.events.now c.loop-done.done stalls.done (after_events c.args.events.now c.args.self.now) c.loop-done.self c.advance.new.self held.ran stalls.ran
-    (λ j p q. none_between (here + 1) (here + c.steps_before_next-burst.result) j c.args.events.now c.loop-done.applied split (omega (arith, p)) (omega (arith, q, stalls.before))))
-    (omega (arith, stalls.count, held.steps)) stalls.unbuilt
-
-pub returns-then-not-advance-clause-stopped_applied : goal.returns-then-not-advance-clause-stopped_applied
-returns-then-not-advance-clause-stopped_applied c =
-    let next = c.steps_before_next-burst.ensures in
-    let stalls = c.if-not-advance.ensures.stopped in
-    let here = c.loop-done.self.state.core.steps in
-    let now = c.advance.new.self.state.core.steps in
-    let split : Split (here + 1) (here + c.steps_before_next-burst.result) c.args.events.now c.loop-done.applied = subst (λ (k : ℕ). Split (k + 1) (k + c.steps_before_next-burst.result) c.args.events.now c.loop-done.applied) c.steps.ensures next.split in
-    split_count now c.args.events.now c.loop-done.applied
-    (split_between (here + 1) (now + 1) (here + c.steps_before_next-burst.result) (now + 1) c.args.events.now c.loop-done.applied split (omega (arith, stalls.count)) (omega (arith, stalls.count, stalls.before)))
-
 pub advance-requires : goal.advance-requires
 advance-requires c = omega (arith, c.steps_before_next-burst.ensures.most, c.loop-done.invariant.steps, c.requires.count, c.loop-done-test.true)
 
@@ -58,7 +35,7 @@ apply-applied-requires-in-loop-done c =
     let now = c.advance.new.self.state.core.steps in
     let split : Split (here + 1) (here + c.steps_before_next-burst.result) c.args.events.now c.loop-done.applied = subst (λ (k : ℕ). Split (k + 1) (k + c.steps_before_next-burst.result) c.args.events.now c.loop-done.applied) c.steps.ensures next.split in
     record {
-      split = split_between (here + 1) now (here + c.steps_before_next-burst.result) now c.args.events.now c.loop-done.applied split (omega (arith, c.if-not-advance.ensures.count, next.some)) (omega (arith, c.if-not-advance.ensures.count));
+      split = split_between (here + 1) now (here + c.steps_before_next-burst.result) now c.args.events.now c.loop-done.applied split (omega (arith, c.advance.ensures.count, next.some)) (omega (arith, c.advance.ensures.count));
     }
 
 pub loop-done-preserved : goal.loop-done-preserved
@@ -70,10 +47,10 @@ loop-done-preserved c =
     let split : Split (here + 1) (here + c.steps_before_next-burst.result) c.args.events.now c.loop-done.applied = subst (λ (k : ℕ). Split (k + 1) (k + c.steps_before_next-burst.result) c.args.events.now c.loop-done.applied) c.steps.ensures next.split in
     record {
       ran = steps_burst c.args.events.now c.loop-done.done c.steps_before_next-burst.result (after_events c.args.events.now c.args.self.now) c.loop-done.self c.advance.new.self c.apply-applied-in-loop-done.new.self
-          held.ran c.if-not-advance.ensures.made next.some
+          held.ran c.advance.ensures.made next.some
           (λ j p q. none_between (here + 1) (here + c.steps_before_next-burst.result) j c.args.events.now c.loop-done.applied split (omega (arith, p)) q) after.applied;
       split = after.split;
-      steps = omega (arith, after.steps, c.if-not-advance.ensures.count, held.steps);
+      steps = omega (arith, after.steps, c.advance.ensures.count, held.steps);
       most = omega (arith, next.most, c.loop-done-test.true);
     }
 
