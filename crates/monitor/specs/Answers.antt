@@ -1,5 +1,5 @@
 -- The answer to each command: what it does to the machine and to the breakpoints, and its text. Own: The answers of the monitor
-use Rattle.std.specs.Prelude.{◌≡◌, ◌≤◌, ◌<◌, ◌-◌, ◌⊎◌, ⊤, ℕ, zero, suc, Bool, true, false, List, [], ◌++◌, min, codes, Option}
+use Rattle.std.specs.Prelude.{◌≡◌, ◌≤◌, ◌-◌, ⊤, ℕ, zero, suc, Bool, true, false, List, [], ◌++◌, min, Option}
 use Rattle.std.specs.Io.KnownBytes.{Appends}
 use Rattle.host_io.specs.Transfers.{AppendsPrefix}
 use Rattle.mdl_board.specs.Board.{BoardState}
@@ -11,40 +11,18 @@ use Rattle.mdl_text.specs.declared.command.Command.TheVariants as commands
 use Rattle.mdl_step.specs.Report.{register_lines, screen_lines}
 use Rattle.reports.specs.Shown.{start_of, cursor_of}
 use Rattle.monitor.specs.Bytes.{bytes_lines}
-use Rattle.monitor.specs.Moves.{Moves, Continues, steps_left}
+use Rattle.monitor.specs.Moves.{Makes, Continues, steps_left}
 use Rattle.monitor.specs.Places.{IsPlace, ListsAt}
 use Rattle.monitor.specs.Stops.{with_stop, add_text, without_stop, drop_text}
 
 -- ---- parts of answers
 
--- behind the place where the next step is not built. Own: A session goes on where a step is not built
-abbrev pub unbuilt_text : List ℕ
-unbuilt_text = codes "unbuilt\n"
-
--- what stands behind a place line, as the steps were all made or not
-abbrev pub end_text : Bool → List ℕ
-end_text true = []
-end_text false = unbuilt_text
-
--- the place where steps ended
-pub record Ends (m : Machine BoardState) (whole : Bool) (text : List ℕ) : Type 0 where
-  pub line : List ℕ
-  pub is_place : IsPlace m line
-  pub written : text ≡ line ++ end_text whole
-
 -- so many times a step, where there may be one more, and a place line
 abbrev pub Traces : List Event → ℕ → Machine BoardState → Machine BoardState → List ℕ → Type 0
 Traces events zero m n text = (n ≡ m) × (text ≡ [])
 Traces events (suc count) m n text =
-    (mid : Machine BoardState) × (before line : List ℕ) × Traces events count m mid before × Moves events (min 1 (steps_left mid)) mid n true
+    (mid : Machine BoardState) × (before line : List ℕ) × Traces events count m mid before × Makes events (min 1 (steps_left mid)) mid n
     × IsPlace n line × (text ≡ before ++ line)
-
--- all of them, or those before a step that is not built
-abbrev pub IsTrace : List Event → ℕ → Machine BoardState → Machine BoardState → List ℕ → Type 0
-IsTrace events count m n text =
-    ((times : ℕ) × (times ≡ count) × Traces events times m n text)
-    ⊎ ((times : ℕ) × (times < count) × (mid : Machine BoardState) × (lines : List ℕ) × Traces events times m mid lines
-    × Moves events (min 1 (steps_left mid)) mid n false × (text ≡ lines ++ unbuilt_text))
 
 -- the text of the report's first seventeen lines
 abbrev pub registers_text : Machine BoardState → List ℕ
@@ -65,10 +43,10 @@ IsShort command = ⊤
 
 -- what a command does to the machine with these events, and its text; stops are the breakpoints that stand
 abbrev pub Shows : Command → List Event → List ℕ → Machine BoardState → Machine BoardState → List ℕ → Type 0
-Shows (commands.Steps count) events stops m n text = (whole : Bool) × Moves events (min count (steps_left m)) m n whole × Ends n whole text
-Shows (commands.Trace count) events stops m n text = IsTrace events count m n text
-Shows (commands.Go to) events stops m n text = (whole : Bool) × Moves events (min to most_steps - m.state.core.steps) m n whole × Ends n whole text
-Shows commands.Continue events stops m n text = (whole : Bool) × Continues events stops (min most_continued (steps_left m)) m n whole × Ends n whole text
+Shows (commands.Steps count) events stops m n text = Makes events (min count (steps_left m)) m n × IsPlace n text
+Shows (commands.Trace count) events stops m n text = Traces events count m n text
+Shows (commands.Go to) events stops m n text = Makes events (min to most_steps - m.state.core.steps) m n × IsPlace n text
+Shows commands.Continue events stops m n text = Continues events stops (min most_continued (steps_left m)) m n × IsPlace n text
 Shows (commands.AddStop at) events stops m n text = (n ≡ m) × (text ≡ add_text stops at)
 Shows (commands.DropStop at) events stops m n text = (n ≡ m) × (text ≡ drop_text stops at)
 Shows commands.Registers events stops m n text = (n ≡ m) × (text ≡ registers_text m)

@@ -1,5 +1,5 @@
 -- The steps that a session makes, each with the events of the count that it reaches. Own: The answers of the monitor
-use Rattle.std.specs.Prelude.{◌≡◌, ◌≢◌, ◌⊎◌, ◌<◌, ◌-◌, ℕ, zero, suc, Bool, true, false, IsTrue, List}
+use Rattle.std.specs.Prelude.{◌≡◌, ◌≢◌, ◌⊎◌, ◌<◌, ◌-◌, ℕ, zero, suc, IsTrue, List}
 use Rattle.mdl_board.specs.Board.{BoardState}
 use Rattle.mdl_cpu.specs.Access.{linear_of}
 use Rattle.mdl_state.specs.declared.Activity.TheVariants.{Running}
@@ -10,7 +10,6 @@ use Rattle.mdl_state.specs.Machine.{Machine}
 use Rattle.mdl_state.specs.Registers.{seg_of}
 use Rattle.mdl_step.specs.Computer.{board_rules, on_board, run_policy}
 use Rattle.mdl_step.specs.RunLaws.{StepsFor}
-use Rattle.mdl_step.specs.Step.{IsUnbuilt}
 use Rattle.mdl_text.specs.CommandLine.{most_steps}
 use Rattle.monitor.specs.Stops.{is_stop}
 
@@ -21,11 +20,6 @@ steps_left m = most_steps - m.state.core.steps
 -- so many steps of a machine with these events, where the events of its own count were applied
 abbrev pub Makes : List Event → ℕ → Machine BoardState → Machine BoardState → Type 0
 Makes events steps m n = StepsFor board_rules on_board events run_policy steps m n
-
--- so many steps, or fewer where the next one is not built; the truth value tells which
-abbrev pub Moves : List Event → ℕ → Machine BoardState → Machine BoardState → Bool → Type 0
-Moves events steps m n true = Makes events steps m n
-Moves events steps m n false = (done : ℕ) × (done < steps) × Makes events done m n × IsUnbuilt board_rules n
 
 -- ---- up to a breakpoint
 
@@ -43,11 +37,8 @@ Passes events stops zero m n = n ≡ m
 Passes events stops (suc steps) m n =
     (mid : Machine BoardState) × Passes events stops steps m mid × Makes events 1 mid n × ¬ (IsStopped stops n)
 
--- Steps up to the first behind which it stands at a breakpoint or does not run, but at most so many, and none where the
--- next one is not built.
-abbrev pub Continues : List Event → List ℕ → ℕ → Machine BoardState → Machine BoardState → Bool → Type 0
-Continues events stops most m n true =
+-- steps up to the first behind which it stands at a breakpoint or does not run, but at most so many
+abbrev pub Continues : List Event → List ℕ → ℕ → Machine BoardState → Machine BoardState → Type 0
+Continues events stops most m n =
     ((steps : ℕ) × (steps < most) × (mid : Machine BoardState) × Passes events stops steps m mid × Makes events 1 mid n × IsStopped stops n)
     ⊎ ((steps : ℕ) × (steps ≡ most) × Passes events stops steps m n)
-Continues events stops most m n false =
-    (steps : ℕ) × (steps < most) × (mid : Machine BoardState) × Passes events stops steps m mid × Moves events 1 mid n false

@@ -8,7 +8,8 @@ ghost use Rattle.host_io.specs.Promises.{IsSure, IsFull};
 ghost use Rattle.host_io.specs.Slots.{Same, SameBut};
 ghost use Rattle.mdl_text.specs.CommandLine.{most_steps};
 ghost use Rattle.mdl_text.specs.declared.command.Command.TheVariants as commands;
-ghost use Rattle.monitor.specs.Answers.{Ends, IsTrace, IsShort, Shows, Answers, AnswersInPart, stops_after, goes_on};
+ghost use Rattle.monitor.specs.Answers.{Traces, IsShort, Shows, Answers, AnswersInPart, stops_after, goes_on};
+ghost use Rattle.monitor.specs.Places.{IsPlace};
 
 use crate::byte_lines::bytes_lines;
 use crate::code_lines::push_listing;
@@ -21,34 +22,24 @@ use host_io::{Failed, Host, OutSlot, write_all};
 use mdl_text::Command;
 use reports::{register_lines, screen_lines};
 
-/// What stands behind a place where the next step is not built.
-const UNBUILT: &[u8] = b"unbuilt\n";
-
-/// The place where steps ended, with a line behind it where one of them is not built.
-fn ended<T: Target>(target: &T, whole: bool) -> Text
-    ensures { Ends (T.machine target.now) whole result.items }
+/// The place where steps ended.
+fn place<T: Target>(target: &T) -> Text
+    ensures { IsPlace (T.machine target.now) result.items }
 {
-    let mut text = text_of(place_line(target).as_slice());
-    if !whole {
-        push_line(&mut text, UNBUILT);
-    }
-    text
+    text_of(place_line(target).as_slice())
 }
 
 /// Makes so many steps, with a place line behind each.
 fn trace<T: Target>(target: &mut T, count: u32) -> Text
     requires steps { (T.machine target.old).state.core.steps ≤ most_steps }
     requires count { count ≤ 1000 }
-    ensures trace { IsTrace (T.script target.old) count (T.machine target.old) (T.machine target.new) result.items }
+    ensures trace { Traces (T.script target.old) count (T.machine target.old) (T.machine target.new) result.items }
     ensures bound { (T.machine target.new).state.core.steps ≤ most_steps }
     ensures script { T.script target.new ≡ T.script target.old }
 {
     let mut text = Text::new();
     for _line in 0..count {
-        if !move_by(target, 1) {
-            push_line(&mut text, UNBUILT);
-            return text;
-        }
+        move_by(target, 1);
         push_line(&mut text, place_line(target).as_slice());
     }
     text
@@ -75,17 +66,17 @@ fn text_for<T: Target>(command: Command, breaks: &mut Breaks, target: &mut T) ->
 {
     match command {
         Command::Steps(count) => {
-            let whole = move_by(target, count);
-            ended(target, whole)
+            move_by(target, count);
+            place(target)
         }
         Command::Trace(count) => trace(target, count),
         Command::Go(to) => {
-            let whole = move_to(target, to);
-            ended(target, whole)
+            move_to(target, to);
+            place(target)
         }
         Command::Continue => {
-            let whole = go_on(target, breaks);
-            ended(target, whole)
+            go_on(target, breaks);
+            place(target)
         }
         Command::AddStop(at) => text_of(add(breaks, at)),
         Command::DropStop(at) => text_of(drop(breaks, at)),

@@ -7,7 +7,7 @@ ghost use Rattle.mdl_state.specs.declared.Event.{Event};
 ghost use Rattle.mdl_state.specs.Machine.{Machine};
 ghost use Rattle.mdl_state.specs.Memory.{byte_at};
 ghost use Rattle.mdl_step.specs.Computer.{linear_byte};
-ghost use Rattle.monitor.specs.Moves.{Moves};
+ghost use Rattle.monitor.specs.Moves.{Makes};
 
 use mdl_state::{Activity, Regs};
 use reports::Shown;
@@ -21,20 +21,19 @@ pub trait Target {
     /// The events of its script.
     ghost script: { Self → List Event };
 
-    /// Makes one step, and answers false where it is not built.
-    fn step(&mut self) -> bool
+    /// Makes one step.
+    fn step(&mut self)
         requires { (machine self.old).state.core.steps < 10 ^ 15 }
-        ensures moves { Moves (script self.old) 1 (machine self.old) (machine self.new) result }
-        ensures bound { (machine self.new).state.core.steps ≤ (machine self.old).state.core.steps + 1 }
+        ensures made { Makes (script self.old) 1 (machine self.old) (machine self.new) }
+        ensures count { (machine self.new).state.core.steps ≡ (machine self.old).state.core.steps + 1 }
         ensures script { script self.new ≡ script self.old };
 
-    /// Makes steps up to this count of them, and answers false where it comes to one that is not
-    /// built.
-    fn advance(&mut self, to: u64) -> bool
+    /// Makes steps up to this count of them.
+    fn advance(&mut self, to: u64)
         requires from { (machine self.old).state.core.steps ≤ to }
         requires most { to ≤ 10 ^ 15 }
-        ensures moves { Moves (script self.old) (to - (machine self.old).state.core.steps) (machine self.old) (machine self.new) result }
-        ensures bound { (machine self.new).state.core.steps ≤ to }
+        ensures made { Makes (script self.old) (to - (machine self.old).state.core.steps) (machine self.old) (machine self.new) }
+        ensures count { (machine self.new).state.core.steps ≡ to }
         ensures script { script self.new ≡ script self.old };
 
     fn regs(&self) -> Regs
