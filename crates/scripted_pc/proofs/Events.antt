@@ -7,10 +7,10 @@ use Rattle.mdl_board.specs.Board.{BoardState}
 use Rattle.mdl_state.specs.declared.Event.{Event}
 use Rattle.mdl_state.specs.Machine.{Machine}
 use Rattle.mdl_text.specs.Script.{RisesFrom}
-use Rattle.monitor.specs.Moves.{Moves}
+use Rattle.monitor.specs.Moves.{Makes}
 use Rattle.pc_machine.specs.CutLaws.{rest_rises, ran_on}
 use Rattle.pc_machine.specs.EventLaws.{none_by}
-use Rattle.pc_machine.specs.Runs.{due_by, RanFor, StopsBefore}
+use Rattle.pc_machine.specs.Runs.{due_by, RanFor}
 
 rises_later : (k n : ℕ) (es : List Event) → n ≤ k → RisesFrom k es → RisesFrom n es
 rises_later k n [] le h = tt
@@ -48,14 +48,10 @@ part events slice a is = take_rest slice a ∙ ap (λ (xs : List Event). drop a 
 pub part_rises : (events slice : List Event) (k a : ℕ) → slice ≡ events → RisesFrom 0 events → a ≡ due_by k events → RisesFrom k (take (length slice - a) (drop a slice))
 part_rises events slice k a is rises due = subst (λ (xs : List Event). RisesFrom k xs) (sym (part events slice a is)) (rest_of k 0 a events rises due)
 
-pub moves_whole : (events slice : List Event) (steps a : ℕ) (m n : Machine BoardState) → slice ≡ events → RisesFrom 0 events → a ≡ due_by m.state.core.steps events
-    → RanFor (take (length slice - a) (drop a slice)) steps m n → Moves events steps m n true
-moves_whole events slice steps a m n is rises due ran =
+pub makes_all : (events slice : List Event) (steps a : ℕ) (m n : Machine BoardState) → slice ≡ events → RisesFrom 0 events → a ≡ due_by m.state.core.steps events
+    → RanFor (take (length slice - a) (drop a slice)) steps m n → Makes events steps m n
+makes_all events slice steps a m n is rises due ran =
     ran_on events 0 steps m n rises (subst (λ (xs : List Event). RanFor xs steps m n) (part events slice a is ∙ ap (λ (i : ℕ). drop i events) due) ran)
-
-pub moves_stopped : (events slice : List Event) (steps a : ℕ) (m n : Machine BoardState) → slice ≡ events → RisesFrom 0 events → a ≡ due_by m.state.core.steps events
-    → StopsBefore (take (length slice - a) (drop a slice)) steps m n → Moves events steps m n false
-moves_stopped events slice steps a m n is rises due stops = (stops.done, stops.before, moves_whole events slice stops.done a m n is rises due stops.ran, stops.unbuilt)
 
 -- so many events were applied in all
 pub due_more : (events slice : List Event) (a b k j : ℕ) → slice ≡ events → RisesFrom 0 events → k ≤ j → a ≡ due_by k events

@@ -42,10 +42,7 @@ impl Guest {
         ensures events { result.events ≡ events.items }
     {
         let mut pc = pc;
-        let applied = match pc.run(events.as_slice(), 0) {
-            Ok(applied) => applied,
-            Err(stop) => stop.applied,
-        };
+        let applied = pc.run(events.as_slice(), 0);
         Guest {
             pc,
             events,
@@ -59,23 +56,15 @@ impl Target for Guest {
 
     ghost script = { λ g. g.events };
 
-    fn step(&mut self) -> bool {
+    fn step(&mut self) {
         let to = self.pc.steps() + 1;
-        self.advance(to)
+        self.advance(to);
     }
 
-    fn advance(&mut self, to: u64) -> bool {
+    fn advance(&mut self, to: u64) {
         let steps = to - self.pc.steps();
-        match self.pc.run(&self.events.as_slice()[self.applied..], steps) {
-            Ok(applied) => {
-                self.applied += applied;
-                true
-            }
-            Err(stop) => {
-                self.applied += stop.applied;
-                false
-            }
-        }
+        let applied = self.pc.run(&self.events.as_slice()[self.applied..], steps);
+        self.applied += applied;
     }
 
     fn regs(&self) -> Regs {
