@@ -30,7 +30,6 @@ unasked_quiet words left left_now t0 t1 refusals.Words none e = tt
 unasked_quiet words left left_now t0 t1 (refusals.HostFault slot) none e = none e.job e.asks.matched
 unasked_quiet words left left_now t0 t1 (refusals.Length slot n) none e = tt
 unasked_quiet words left left_now t0 t1 (refusals.Script n) none e = tt
-unasked_quiet words left left_now t0 t1 (refusals.Unbuilt steps byte) none e = tt
 unasked_quiet words left left_now t0 t1 (refusals.Late slot) none e = none e.job e.asks.matched
 unasked_quiet words left left_now t0 t1 refusals.Commands none e = none e.job e.asks.matched
 unasked_quiet words left left_now t0 t1 refusals.TooLong none e = tt
@@ -155,8 +154,6 @@ assured_end p q paths t1 t2 path f g h (refusals.HostFault slot) status named sa
 assured_end p q paths t1 t2 path f g h (refusals.Length slot n) status named same quiet counted is told but line assured =
     ((λ fault. cc), same_counts f g h counted (line_written p q paths t2 g h named same line assured))
 assured_end p q paths t1 t2 path f g h (refusals.Script n) status named same quiet counted is told but line assured =
-    ((λ fault. cc), same_counts f g h counted (line_written p q paths t2 g h named same line assured))
-assured_end p q paths t1 t2 path f g h (refusals.Unbuilt steps byte) status named same quiet counted is told but line assured =
     ((λ fault. cc), same_counts f g h counted (line_written p q paths t2 g h named same line assured))
 assured_end p q paths t1 t2 path f g h (refusals.Late slot) status named same quiet counted is told but line assured =
     absurd (quiet (before_line p paths t1 t2 (told_full p (t1 Report) (t2 Report) path (g (Out Report)) (h (Out Report)) _ (told (λ is. cc))) but assured))

@@ -9,11 +9,8 @@ use Rattle.host_io.specs.Causes.{Rose}
 use Rattle.host_io.specs.Slots.{SameBut}
 use Rattle.host_io.specs.Transfers.{IsWhole, IsOver}
 use Rattle.command_words.specs.Jobs.{Machine, RunJob, Job, Run, Dis, Demo, Monitor, Matched}
-use Rattle.mdl_state.specs.declared.Event.{Event}
 use Rattle.mdl_state.specs.Memory.{IsRomLength}
-use Rattle.mdl_step.specs.Computer.{board_rules, on_board, powered, run_policy}
-use Rattle.mdl_step.specs.Run.{ReachesUnbuilt}
-use Rattle.mdl_text.specs.ScriptLaws.{none_bad, one_script}
+use Rattle.mdl_text.specs.ScriptLaws.{none_bad}
 use Rattle.mdl_text.specs.Script as texts
 use Rattle.monitor.specs.Session.{most_commands}
 use Rattle.m386.specs.declared.refusals.Refusal.{Refusal}
@@ -24,7 +21,7 @@ use Rattle.m386.specs.Slots.{Left, Took, Counts, input_path}
 use Rattle.m386.specs.Inputs.{Fed, IsFed, IsFit, IsInput, IsLength, IsAccepted, IsScriptWrong, limit_of}
 use Rattle.m386.specs.Listed.{IsRom}
 use Rattle.m386.specs.Refusals.{status_of}
-use Rattle.m386.specs.Causes.{OnlyRose, AreCounted, IsJobLengthWrong, IsJobScriptWrong, IsUnbuilt, IsJobOverlong}
+use Rattle.m386.specs.Causes.{OnlyRose, AreCounted, IsJobLengthWrong, IsJobScriptWrong, IsJobOverlong}
 use Rattle.m386.proofs.Slots.{grown}
 use Rattle.m386.specs.Answers.{Accepts, Tells, SomeRose, IsEnded}
 
@@ -72,17 +69,6 @@ fed_length m left fed Disk name n told is path length_is wrong = wrong (accepted
 fed_length m left fed Script name n told is path length_is wrong = wrong (accepted_fits m left Script is.script name n told is.read path length_is)
 fed_length m left fed Commands name n told is path length_is wrong = cc
 
--- a machine is fed in one way
-fed_same : (m : Machine) (left : Left) (a b : Fed) → Tells left → IsFed m left a → IsFed m left b → a ≡ b
-fed_same m left a b told is_a is_b =
-    let rom : a.rom ≡ b.rom = same_input (input_path m Rom) (left Rom) a.rom b.rom (told Rom) is_a.rom.whole is_b.rom.whole in
-    let disk : a.disk ≡ b.disk = same_input (input_path m Disk) (left Disk) a.disk b.disk (told Disk) is_a.disk.whole is_b.disk.whole in
-    let script : is_a.script ≡ is_b.script = same_input (input_path m Script) (left Script) is_a.script is_b.script (told Script) is_a.read.whole is_b.read.whole in
-    let events : a.events ≡ b.events = one_script is_b.script a.events b.events (subst (λ s. texts.Script s a.events) script is_a.events) is_b.events in
-    ap (λ (x : List ℕ). let fed : Fed = record { rom = x; disk = a.disk; events = a.events } in fed) rom
-    ∙ ap (λ (x : List ℕ). let fed : Fed = record { rom = b.rom; disk = x; events = a.events } in fed) disk
-    ∙ ap (λ (x : List Event). let fed : Fed = record { rom = b.rom; disk = b.disk; events = x } in fed) events
-
 -- ---- jobs
 
 right_length : (job : Job) (left : Left) (slot : InSlot) (n : ℕ) → Tells left → Accepts job left → IsJobLengthWrong job left slot n → ⊥
@@ -101,14 +87,6 @@ right_script (Run job) left n told accepts wrong = script_read job.machine left 
 right_script (Dis job) left n told accepts wrong = wrong
 right_script (Demo number) left n told accepts wrong = wrong
 right_script (Monitor machine) left n told accepts wrong = script_read machine left accepts.0 n told accepts.1 wrong
-
-all_built : (job : Job) (left : Left) (steps byte : ℕ) → Tells left → Accepts job left → IsUnbuilt job left steps byte → ⊥
-all_built (Run job) left steps byte told accepts unbuilt =
-    accepts.2 (subst (λ (fed : Fed). ReachesUnbuilt board_rules on_board fed.events run_policy (powered job.machine.ram fed.rom fed.disk) job.steps)
-    (fed_same job.machine left unbuilt.fed accepts.0 told unbuilt.is_fed accepts.1) unbuilt.at.reaches)
-all_built (Dis job) left steps byte told accepts unbuilt = unbuilt
-all_built (Demo number) left steps byte told accepts unbuilt = accepts unbuilt.reaches
-all_built (Monitor machine) left steps byte told accepts unbuilt = unbuilt
 
 over_fits : (left : Option (List ℕ)) (bytes : List ℕ) → left ≢ None → IsWhole left bytes → IsFit Commands (length bytes) → IsOver most_commands left → ⊥
 over_fits None bytes told whole fits over = told refl
@@ -138,8 +116,6 @@ completed words left left_now t0 t1 f g h asked (refusals.Length slot n) status 
     absurd (right_length e.job left slot n told (subst (λ j. Accepts j left) (e.asks.only asked matched) accepts) e.refused.0)
 completed words left left_now t0 t1 f g h asked (refusals.Script n) status e counted is matched accepts told calm same later =
     absurd (right_script e.job left n told (subst (λ j. Accepts j left) (e.asks.only asked matched) accepts) e.refused.0)
-completed words left left_now t0 t1 f g h asked (refusals.Unbuilt steps byte) status e counted is matched accepts told calm same later =
-    absurd (all_built e.job left steps byte told (subst (λ j. Accepts j left) (e.asks.only asked matched) accepts) e.refused.0)
 completed words left left_now t0 t1 f g h asked (refusals.Late slot) status e counted is matched accepts told calm same later = absurd (calm (rose_still f g h (Out slot) counted same later))
 completed words left left_now t0 t1 f g h asked refusals.Commands status e counted is matched accepts told calm same later = absurd (calm (rose_still f g h (In Commands) counted same later))
 completed words left left_now t0 t1 f g h asked refusals.TooLong status e counted is matched accepts told calm same later =

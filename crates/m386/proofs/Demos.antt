@@ -68,7 +68,6 @@ demo_cut number left left_now t0 t1 last (refusals.HostFault slot) to refused ot
     same Save = others Save (λ is. cc)
 demo_cut number left left_now t0 t1 last (refusals.Length slot n) to refused others = absurd refused
 demo_cut number left left_now t0 t1 last (refusals.Script n) to refused others = absurd refused
-demo_cut number left left_now t0 t1 last (refusals.Unbuilt steps byte) to refused others = absurd refused
 demo_cut number left left_now t0 t1 last refusals.Commands to refused others = refused
 demo_cut number left left_now t0 t1 last refusals.TooLong to refused others = refused
 demo_cut number left left_now t0 t1 last (refusals.Late slot) to refused others = record {

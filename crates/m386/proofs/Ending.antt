@@ -64,7 +64,6 @@ write_refused job left left_now t0 t1 t2 fed last refusals.Words is_fed to same 
 write_refused job left left_now t0 t1 t2 fed last (refusals.HostFault slot) is_fed to same refused = (tt, same_then t0 t1 t2 same refused)
 write_refused job left left_now t0 t1 t2 fed last (refusals.Length slot n) is_fed to same refused = absurd refused
 write_refused job left left_now t0 t1 t2 fed last (refusals.Script n) is_fed to same refused = absurd refused
-write_refused job left left_now t0 t1 t2 fed last (refusals.Unbuilt steps byte) is_fed to same refused = absurd refused
 write_refused job left left_now t0 t1 t2 fed last refusals.Commands is_fed to same refused = absurd refused
 write_refused job left left_now t0 t1 t2 fed last refusals.TooLong is_fed to same refused = absurd refused
 write_refused job left left_now t0 t1 t2 fed last (refusals.Late slot) is_fed to same refused = record {
@@ -168,7 +167,6 @@ faulted words left l1 l2 t0 t1 t2 p0 p1 path f g h (refusals.HostFault slot) sta
 }
 faulted words left l1 l2 t0 t1 t2 p0 p1 path f g h (refusals.Length slot n) status still e counted is told but same later opened up fault = cc
 faulted words left l1 l2 t0 t1 t2 p0 p1 path f g h (refusals.Script n) status still e counted is told but same later opened up fault = cc
-faulted words left l1 l2 t0 t1 t2 p0 p1 path f g h (refusals.Unbuilt steps byte) status still e counted is told but same later opened up fault = cc
 faulted words left l1 l2 t0 t1 t2 p0 p1 path f g h (refusals.Late slot) status still e counted is told but same later opened up fault = record {
   job = e.job;
   asks = e.asks;
@@ -218,7 +216,6 @@ imaged words left l1 t0 t1 t2 path f g h (refusals.Length slot n) status e count
   };
 }
 imaged words left l1 t0 t1 t2 path f g h (refusals.Script n) status e counted is told but image = cc
-imaged words left l1 t0 t1 t2 path f g h (refusals.Unbuilt steps byte) status e counted is told but image = cc
 imaged words left l1 t0 t1 t2 path f g h (refusals.Late slot) status e counted is told but image = cc
 imaged words left l1 t0 t1 t2 path f g h refusals.Commands status e counted is told but image = cc
 imaged words left l1 t0 t1 t2 path f g h refusals.TooLong status e counted is told but image = record {

@@ -53,7 +53,6 @@ input_refused m l0 l1 slot (refusals.Length other n) before same is refused = su
     let moved = subst (λ x. IsInputRefused slot x (refusals.Length other n)) same refused in
     record { before = before; path = path.0; named = path.1; told = moved.1; wrong = moved.2 })
 input_refused m l0 l1 slot (refusals.Script n) before same is refused = absurd refused
-input_refused m l0 l1 slot (refusals.Unbuilt steps byte) before same is refused = refused
 input_refused m l0 l1 slot (refusals.Late other) before same is refused = refused
 input_refused m l0 l1 slot refusals.Commands before same is refused = refused
 input_refused m l0 l1 slot refusals.TooLong before same is refused = refused
@@ -70,7 +69,6 @@ events_refused m l0 rom disk script (refusals.Script n) are refused = record {
   read = are.script_is;
   bad = refused;
 }
-events_refused m l0 rom disk script (refusals.Unbuilt steps byte) are refused = refused
 events_refused m l0 rom disk script (refusals.Late slot) are refused = refused
 events_refused m l0 rom disk script refusals.Commands are refused = refused
 events_refused m l0 rom disk script refusals.TooLong are refused = refused

@@ -87,7 +87,6 @@ fed_refused m left l1 t0 t1 refusals.Words unread same refused = refused
 fed_refused m left l1 t0 t1 (refusals.HostFault slot) unread same refused = (unread, same)
 fed_refused m left l1 t0 t1 (refusals.Length slot n) unread same refused = (refused, same)
 fed_refused m left l1 t0 t1 (refusals.Script n) unread same refused = (refused, same)
-fed_refused m left l1 t0 t1 (refusals.Unbuilt steps byte) unread same refused = absurd refused
 fed_refused m left l1 t0 t1 (refusals.Late slot) unread same refused = absurd refused
 fed_refused m left l1 t0 t1 refusals.Commands unread same refused = absurd refused
 fed_refused m left l1 t0 t1 refusals.TooLong unread same refused = absurd refused
@@ -116,7 +115,6 @@ talk_ends m left l2 t0 t2 fed p (refusals.HostFault slot) is_fed on others refus
     same Save = others Save (λ is. cc)
 talk_ends m left l2 t0 t2 fed p (refusals.Length slot n) is_fed on others refused = absurd refused
 talk_ends m left l2 t0 t2 fed p (refusals.Script n) is_fed on others refused = absurd refused
-talk_ends m left l2 t0 t2 fed p (refusals.Unbuilt steps byte) is_fed on others refused = absurd refused
 talk_ends m left l2 t0 t2 fed p (refusals.Late slot) is_fed on others refused = record {
   is_report = refused.0;
   started = started m left fed p is_fed on;

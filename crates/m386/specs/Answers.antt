@@ -1,5 +1,5 @@
 -- When each answer comes, and what the outputs have then. Own: The line of a refusal
-use Rattle.std.specs.Prelude.{◌≡◌, ◌≢◌, ◌⊎◌, ◌+◌, ℕ, List, [], length, Option, None}
+use Rattle.std.specs.Prelude.{◌≡◌, ◌≢◌, ◌⊎◌, ◌+◌, ⊤, ℕ, List, [], length, Option, None}
 use Rattle.std.specs.Io.KnownBytes.{Appends}
 use Rattle.host_io.specs.declared.host.InSlot.{InSlot}
 use Rattle.host_io.specs.declared.host.InSlot.TheVariants.{Commands}
@@ -11,18 +11,16 @@ use Rattle.host_io.specs.Openings.{Openings, WasOpened}
 use Rattle.host_io.specs.Slots.{Same, SameBut}
 use Rattle.host_io.specs.Transfers.{AppendsPrefix, IsWhole}
 use Rattle.command_words.specs.Jobs.{Job, Run, Dis, Demo, Monitor, Matched, NoneMatched}
-use Rattle.mdl_step.specs.Computer.{board_rules, on_board, powered, run_policy}
-use Rattle.mdl_step.specs.Run.{ReachesUnbuilt}
 use Rattle.m386.specs.declared.refusals.Refusal.{Refusal}
 use Rattle.m386.specs.declared.refusals.Refusal.TheVariants as refusals
 use Rattle.m386.specs.Slots.{Left, Took, Paths, Counts, NoneOpenedBehind}
 use Rattle.m386.specs.Inputs.{Fed, IsFed, IsFit, limit_of}
-use Rattle.m386.specs.Refusals.{fault_line, length_line, script_line, unbuilt_line}
+use Rattle.m386.specs.Refusals.{fault_line, length_line, script_line}
 use Rattle.m386.specs.Headline.{Headline}
 use Rattle.m386.specs.Listed.{IsRom, Listed}
-use Rattle.m386.specs.Demonstrated.{Demonstrated, demo_fed, demo_ram, demo_steps}
+use Rattle.m386.specs.Demonstrated.{Demonstrated}
 use Rattle.m386.specs.Monitored.{Monitored}
-use Rattle.m386.specs.Causes.{IsRefused, IsJobLengthWrong, IsJobScriptWrong, IsUnbuilt, IsCut, IsJobUnheard, IsJobInterrupted, IsJobOverlong}
+use Rattle.m386.specs.Causes.{IsRefused, IsJobLengthWrong, IsJobScriptWrong, IsCut, IsJobUnheard, IsJobInterrupted, IsJobOverlong}
 
 -- ---- how a command ends, before the line of a refusal
 
@@ -101,15 +99,6 @@ pub record IsScriptBad (words : List (List ℕ)) (left : Left) (before now : Too
   pub bad : IsJobScriptWrong job left n
   pub line : HasLine before now paths counts_before counts_now (script_line n)
 
--- a run or a demo is asked for that comes to a step that is not built; the report has the line of that step
-pub record IsRunUnbuilt (words : List (List ℕ)) (left : Left) (before now : Took) (paths : Paths) (counts_before counts_now : Counts) : Type 0 where
-  pub job : Job
-  pub asks : AsksFor words job
-  pub steps : ℕ
-  pub byte : ℕ
-  pub unbuilt : IsUnbuilt job left steps byte
-  pub line : HasLine before now paths counts_before counts_now (unbuilt_line steps byte)
-
 -- What the outputs have where a slot failed. At an output: nothing, or what the job writes, up to some first bytes of one text. At an
 -- input: nothing, and no commands were taken; or, at the commands, the answers to all whole lines that were taken.
 abbrev pub IsTextUpTo : Job → Left → Left → Took → Took → Slot → Type 0
@@ -134,12 +123,9 @@ pub record IsFaulted (words : List (List ℕ)) (left left_now : Left) (before no
 abbrev pub Tells : Left → Type 0
 Tells left = (slot : InSlot) → left slot ≢ None
 
--- The inputs of a job are accepted, and no run of it comes to a step that is not built, whatever is chosen. A session answers such
--- a step, and goes on.
+-- the inputs of a job are accepted
 abbrev pub Accepts : Job → Left → Type 0
-Accepts (Run job) left =
-    (fed : Fed) × IsFed job.machine left fed
-    × ¬ (ReachesUnbuilt board_rules on_board fed.events run_policy (powered job.machine.ram fed.rom fed.disk) job.steps)
+Accepts (Run job) left = (fed : Fed) × IsFed job.machine left fed
 Accepts (Dis job) left = (rom : List ℕ) × IsRom left rom
-Accepts (Demo number) left = ¬ (ReachesUnbuilt board_rules on_board [] run_policy (powered demo_ram (demo_fed number).rom []) demo_steps)
+Accepts (Demo number) left = ⊤
 Accepts (Monitor machine) left = (fed : Fed) × IsFed machine left fed × (commands : List ℕ) × IsWhole (left Commands) commands × IsFit Commands (length commands)

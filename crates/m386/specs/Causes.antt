@@ -1,5 +1,5 @@
 -- Why what the words ask for ends with a refusal, and what the outputs have then, before the line is written.
-use Rattle.std.specs.Prelude.{◌≡◌, ◌<◌, ⊤, ℕ, List, [], length, Option, Some}
+use Rattle.std.specs.Prelude.{◌≡◌, ⊤, ℕ, List, [], Option, Some}
 use Rattle.host_io.specs.declared.host.InSlot.{InSlot}
 use Rattle.host_io.specs.declared.host.InSlot.TheVariants.{Rom, Commands}
 use Rattle.host_io.specs.declared.host.OutSlot.{OutSlot}
@@ -10,17 +10,8 @@ use Rattle.host_io.specs.Causes.{Rose}
 use Rattle.host_io.specs.Openings.{Openings, WasOpened}
 use Rattle.host_io.specs.Slots.{Same, SameBut}
 use Rattle.command_words.specs.Jobs.{RunJob, DisJob, Job, Run, Dis, Demo, Monitor}
-use Rattle.mdl_board.specs.Board.{BoardState}
-use Rattle.mdl_cpu.specs.Access.{linear_of}
-use Rattle.mdl_state.specs.declared.Event.{Event}
-use Rattle.mdl_state.specs.declared.Regs.{Regs}
-use Rattle.mdl_state.specs.declared.Seg.TheVariants.{Cs}
-use Rattle.mdl_state.specs.Machine.{Machine}
-use Rattle.mdl_state.specs.Memory.{IsRomLength, byte_at}
-use Rattle.mdl_state.specs.Registers.{seg_of}
-use Rattle.mdl_state.specs.State.{Physical}
-use Rattle.mdl_step.specs.Computer.{board_rules, on_board, powered, run_policy}
-use Rattle.mdl_step.specs.Run.{ReachesUnbuilt, walk_count}
+use Rattle.mdl_state.specs.Memory.{IsRomLength}
+use Rattle.mdl_step.specs.Run.{walk_count}
 use Rattle.reports.specs.Lines.{AppendsListingPrefix}
 use Rattle.m386.specs.declared.refusals.Refusal.{Refusal}
 use Rattle.m386.specs.declared.refusals.Refusal.TheVariants as refusals
@@ -28,26 +19,8 @@ use Rattle.m386.specs.Slots.{Left, Took, Paths, Counts, IsCutAt, OpenedOnly, Non
 use Rattle.m386.specs.Inputs.{Fed, IsFed, IsLength, limit_of, IsLengthWrong, IsScriptWrong}
 use Rattle.m386.specs.Headline.{Ran, text_for}
 use Rattle.m386.specs.Listed.{IsRom}
-use Rattle.m386.specs.Demonstrated.{demo_fed, demo_ram, demo_steps, IsDemoCut}
+use Rattle.m386.specs.Demonstrated.{IsDemoCut}
 use Rattle.m386.specs.Monitored.{IsAnswerCut, IsInterrupted, IsOverlong}
-
--- ---- steps that are not built
-
--- the byte at the physical address CS base + EIP. Own: The byte of a step that is not built
-unfoldable pub code_byte : Physical → Regs → ℕ
-code_byte physical r = byte_at physical (linear_of (seg_of r Cs) r.eip)
-
--- some run with these events ends after so many steps, below the bound, where this byte stands at CS:EIP and the next step is not built
-pub record IsUnbuiltAt (events : List Event) (m : Machine BoardState) (bound steps byte : ℕ) : Type 0 where
-  pub reaches : ReachesUnbuilt board_rules on_board events run_policy m bound
-  pub count : steps ≡ length reaches.choices
-  pub code : byte ≡ code_byte reaches.last.state.mem.physical reaches.last.state.core.regs
-
--- the run that is asked for comes, before its last step, to such a step
-pub record IsStopped (job : RunJob) (left : Left) (steps byte : ℕ) : Type 0 where
-  pub fed : Fed
-  pub is_fed : IsFed job.machine left fed
-  pub at : IsUnbuiltAt fed.events (powered job.machine.ram fed.rom fed.disk) job.steps steps byte
 
 -- ---- texts that are cut
 
@@ -81,12 +54,6 @@ IsJobScriptWrong (Run job) left n = IsScriptWrong job.machine left n
 IsJobScriptWrong (Monitor machine) left n = IsScriptWrong machine left n
 IsJobScriptWrong _ left n = ⊥
 
--- the job is a run, or a demo, that comes to a step that is not built
-abbrev pub IsUnbuilt : Job → Left → ℕ → ℕ → Type 0
-IsUnbuilt (Run job) left steps byte = IsStopped job left steps byte
-IsUnbuilt (Demo number) left steps byte = IsUnbuiltAt [] (powered demo_ram (demo_fed number).rom []) demo_steps steps byte
-IsUnbuilt _ left steps byte = ⊥
-
 -- the outputs have what the job writes, up to some first bytes of one
 abbrev pub IsCut : Job → Left → Took → Took → OutSlot → Type 0
 IsCut (Run job) left before now slot = IsRunCut job left before now slot
@@ -118,7 +85,6 @@ IsRefused job left left_now before now refusals.Words = ⊥
 IsRefused job left left_now before now (refusals.HostFault slot) = IsJobUnheard job left left_now × Same before now
 IsRefused job left left_now before now (refusals.Length slot n) = IsJobLengthWrong job left slot n × Same before now
 IsRefused job left left_now before now (refusals.Script n) = IsJobScriptWrong job left n × Same before now
-IsRefused job left left_now before now (refusals.Unbuilt steps byte) = IsUnbuilt job left steps byte × Same before now
 IsRefused job left left_now before now (refusals.Late slot) = IsCut job left before now slot
 IsRefused job left left_now before now refusals.Commands = IsJobInterrupted job left left_now before now
 IsRefused job left left_now before now refusals.TooLong = IsJobOverlong job left before now

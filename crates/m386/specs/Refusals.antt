@@ -5,7 +5,6 @@ use Rattle.host_io.specs.declared.host.InSlot.TheVariants.{Rom, Disk, Script, Co
 use Rattle.host_io.specs.declared.host.OutSlot.TheVariants.{Report, Mem, Save}
 use Rattle.host_io.specs.declared.host.Slot.{Slot}
 use Rattle.host_io.specs.declared.host.Slot.TheVariants.{In, Out}
-use Rattle.mdl_insn.specs.Text.{hex}
 use Rattle.monitor.specs.Session.{most_commands}
 use Rattle.m386.specs.declared.refusals.Refusal.{Refusal}
 use Rattle.m386.specs.declared.refusals.Refusal.TheVariants as refusals
@@ -37,10 +36,6 @@ length_line slot n = codes "m386: " ++ slot_name slot ++ codes " length " ++ dec
 unfoldable pub script_line : ℕ → List ℕ
 script_line n = codes "m386: script line " ++ decimal n ++ codes "\n"
 
--- how many steps were done, and the byte at CS:EIP
-unfoldable pub unbuilt_line : ℕ → ℕ → List ℕ
-unbuilt_line steps byte = codes "m386: unbuilt step " ++ decimal steps ++ codes " byte " ++ hex 2 byte ++ codes "\n"
-
 -- the line of a refusal; want of memory has none
 abbrev pub line_of : Refusal → List ℕ
 line_of refusals.Memory = []
@@ -48,7 +43,6 @@ line_of refusals.Words = words_line
 line_of (refusals.HostFault slot) = fault_line slot
 line_of (refusals.Length slot n) = length_line (In slot) n
 line_of (refusals.Script n) = script_line n
-line_of (refusals.Unbuilt steps byte) = unbuilt_line steps byte
 line_of (refusals.Late slot) = fault_line (Out slot)
 line_of refusals.Commands = fault_line (In Commands)
 line_of refusals.TooLong = length_line (In Commands) (most_commands + 1)
@@ -61,7 +55,6 @@ status_of refusals.Words = statuses.Usage
 status_of (refusals.HostFault slot) = statuses.HostFault
 status_of (refusals.Length slot n) = statuses.Image
 status_of (refusals.Script n) = statuses.Script
-status_of (refusals.Unbuilt steps byte) = statuses.Unbuilt
 status_of (refusals.Late slot) = statuses.HostFault
 status_of refusals.Commands = statuses.HostFault
 status_of refusals.TooLong = statuses.Image
@@ -74,4 +67,3 @@ number_of statuses.Usage = 2
 number_of statuses.HostFault = 3
 number_of statuses.Image = 4
 number_of statuses.Script = 5
-number_of statuses.Unbuilt = 6

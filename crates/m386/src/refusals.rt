@@ -10,7 +10,7 @@ ghost use Rattle.host_io.specs.Openings.{WasOpened};
 ghost use Rattle.host_io.specs.Promises.{IsFull, Opens};
 ghost use Rattle.host_io.specs.Slots.{Same, SameBut};
 ghost use Rattle.host_io.specs.Transfers.{AppendsPrefix};
-ghost use Rattle.m386.specs.Refusals.{slot_name, fault_line, length_line, script_line, unbuilt_line, line_of, status_of};
+ghost use Rattle.m386.specs.Refusals.{slot_name, fault_line, length_line, script_line, line_of, status_of};
 ghost use Rattle.m386.specs.Answers.{IsTold};
 ghost use Rattle.m386.specs.Causes.{IsLineOpened, IsReady};
 
@@ -18,7 +18,7 @@ use crate::status::Status;
 use arrayvec::ArrayVec;
 use host_io::{Failed, Host, InSlot, OutSlot, Slot, write_all};
 use monitor::MOST_COMMANDS;
-use reports::{ROOM, push_byte, push_decimal, push_text};
+use reports::{ROOM, push_decimal, push_text};
 
 /// Why a command was not done.
 #[derive(Clone, Copy, Debug, PartialEq, Eq)]
@@ -33,8 +33,6 @@ pub(crate) enum Refusal {
     Length(InSlot, u32),
     /// This line of the script is the first bad one.
     Script(u32),
-    /// The run comes, after so many steps, to one that is not built, and this byte stands at CS:EIP.
-    Unbuilt(u64, u8),
     /// A call on an output failed, with the report open.
     Late(OutSlot),
     /// A read of the commands failed, with the report open.
@@ -91,18 +89,6 @@ fn push_script(text: &mut ArrayVec<u8, ROOM>, n: u32)
     push_text(text, b"\n");
 }
 
-#[tactic(auto, unfolding(crate::specs::Refusals::unbuilt_line))]
-fn push_unbuilt(text: &mut ArrayVec<u8, ROOM>, steps: u64, byte: u8)
-    requires { array_vec_len text.old + 64 ≤ ROOM }
-    ensures { text.new.items ≡ text.old.items ++ unbuilt_line steps byte }
-{
-    push_text(text, b"m386: unbuilt step ");
-    push_decimal(text, steps);
-    push_text(text, b" byte ");
-    push_byte(text, byte);
-    push_text(text, b"\n");
-}
-
 /// The line of a refusal.
 #[tactic(auto, unfolding(crate::specs::Refusals::words_line))]
 fn line_of(refusal: Refusal) -> ArrayVec<u8, ROOM>
@@ -115,7 +101,6 @@ fn line_of(refusal: Refusal) -> ArrayVec<u8, ROOM>
         Refusal::HostFault(slot) => push_fault(&mut text, slot),
         Refusal::Length(slot, n) => push_length(&mut text, Slot::In(slot), n),
         Refusal::Script(n) => push_script(&mut text, n),
-        Refusal::Unbuilt(steps, byte) => push_unbuilt(&mut text, steps, byte),
         Refusal::Late(slot) => push_fault(&mut text, Slot::Out(slot)),
         Refusal::Commands => push_fault(&mut text, Slot::In(InSlot::Commands)),
         Refusal::TooLong => push_length(&mut text, Slot::In(InSlot::Commands), MOST_COMMANDS + 1),
@@ -132,7 +117,6 @@ fn status_of(refusal: Refusal) -> Status
         Refusal::HostFault(_) => Status::HostFault,
         Refusal::Length(_, _) => Status::Image,
         Refusal::Script(_) => Status::Script,
-        Refusal::Unbuilt(_, _) => Status::Unbuilt,
         Refusal::Late(_) => Status::HostFault,
         Refusal::Commands => Status::HostFault,
         Refusal::TooLong => Status::Image,

@@ -21,8 +21,6 @@ pub enum Status {
     Image,
     /// The script has a bad line.
     Script,
-    /// The run comes to a step that is not built.
-    Unbuilt,
 }
 
 impl Status {
@@ -37,7 +35,6 @@ impl Status {
             Status::HostFault => 3,
             Status::Image => 4,
             Status::Script => 5,
-            Status::Unbuilt => 6,
         }
     }
 

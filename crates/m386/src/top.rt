@@ -13,7 +13,7 @@ ghost use Rattle.m386.specs.Demonstrated.{Demonstrated};
 ghost use Rattle.m386.specs.Monitored.{Monitored};
 ghost use Rattle.m386.specs.Refusals.{words_line};
 ghost use Rattle.m386.specs.Causes.{AreCounted, IsOpenedUpTo, IsReady};
-ghost use Rattle.m386.specs.Answers.{Accepts, HasLine, IsDone, IsEnded, IsFaulted, IsImageWrong, IsRunUnbuilt, IsScriptBad, SomeRose, Tells};
+ghost use Rattle.m386.specs.Answers.{Accepts, HasLine, IsDone, IsEnded, IsFaulted, IsImageWrong, IsScriptBad, SomeRose, Tells};
 ghost use Rattle.m386.specs.Assured.{IsAssured, IsNoFault};
 ghost use Rattle.m386.specs.Within.{AreWithin, IsWithin};
 
@@ -75,8 +75,6 @@ pub fn m386<H: Host>(alloc: Global, words: &[&str], host: &mut H) -> Status
         (H.took host.old) (H.took host.new) (H.path host.new) (H.faults host.old) (H.faults host.new) }
     ensures script { result ≡ Status.Script → IsScriptBad (texts words.now) (H.left host.old)
         (H.took host.old) (H.took host.new) (H.path host.new) (H.faults host.old) (H.faults host.new) }
-    ensures unbuilt { result ≡ Status.Unbuilt → IsRunUnbuilt (texts words.now) (H.left host.old)
-        (H.took host.old) (H.took host.new) (H.path host.new) (H.faults host.old) (H.faults host.new) }
     ensures fault { result ≡ Status.HostFault → IsFaulted (texts words.now) (H.left host.old) (H.left host.new)
         (H.took host.old) (H.took host.new) (H.path host.old) (H.path host.new) (H.faults host.old) (H.faults host.new) }
     ensures memory { result ≡ Status.Memory → Same (H.took host.old) (H.took host.new) }
@@ -100,7 +98,7 @@ pub fn m386<H: Host>(alloc: Global, words: &[&str], host: &mut H) -> Status
     ensures unwritten { result ≢ Status.Done → result ≢ Status.HostFault → NoneOpenedBehind (Out Report) (H.path host.old) (H.path host.new) }
     ensures unopened { result ≡ Status.Memory → NoneOpened (H.path host.old) (H.path host.new) }
 
-    // What is asked for, is accepted and comes to no unbuilt step is done, unless memory wants.
+    // What is asked for and accepted is done, unless memory wants.
     ensures complete { (job : asked.Job) → Matched (texts words.now) job → Accepts job (H.left host.old) → Tells (H.left host.old)
         → ¬ SomeRose (H.faults host.old) (H.faults host.new)
         → (result ≡ Status.Done) ⊎ (result ≡ Status.Memory) }

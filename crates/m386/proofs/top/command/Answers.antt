@@ -15,7 +15,6 @@ refused words job l0 l1 t0 t1 refusals.Words is only ends = absurd ends
 refused words job l0 l1 t0 t1 (refusals.HostFault slot) is only ends = record { job = job; asks = record { matched = is; only = only }; refused = ends }
 refused words job l0 l1 t0 t1 (refusals.Length slot n) is only ends = record { job = job; asks = record { matched = is; only = only }; refused = ends }
 refused words job l0 l1 t0 t1 (refusals.Script n) is only ends = record { job = job; asks = record { matched = is; only = only }; refused = ends }
-refused words job l0 l1 t0 t1 (refusals.Unbuilt steps byte) is only ends = record { job = job; asks = record { matched = is; only = only }; refused = ends }
 refused words job l0 l1 t0 t1 (refusals.Late slot) is only ends = record { job = job; asks = record { matched = is; only = only }; refused = ends }
 refused words job l0 l1 t0 t1 refusals.Commands is only ends = record { job = job; asks = record { matched = is; only = only }; refused = ends }
 refused words job l0 l1 t0 t1 refusals.TooLong is only ends = record { job = job; asks = record { matched = is; only = only }; refused = ends }
