@@ -50,6 +50,17 @@ real_sound r control flags level = record {
   flags = rw flags (record { one = refl; three = refl; five = refl; fifteen = refl; above = omega arith });
 }
 
+-- and those with RF 1
+pub resumed_sound : (r : Regs) → r.cr0 ≡ 0 → r.eflags ≡ 0x10002 → r.cpl ≡ 0 → IsSound r
+resumed_sound r control flags level = record {
+  real = λ _. level;
+  virtual_level = λ e. absurd (false≢true (ap (λ (n : ℕ). bit n 17) (sym flags) ∙ e));
+  virtual_mode = λ e. absurd (false≢true (ap (λ (n : ℕ). bit n 17) (sym flags) ∙ e));
+  paged_mode = λ e. absurd (false≢true (ap (λ (n : ℕ). bit n 31) (sym control) ∙ e));
+  level = omega (arith, level);
+  flags = rw flags (record { one = refl; three = refl; five = refl; fifteen = refl; above = omega arith });
+}
+
 -- and those of protected mode with paging, at level 0
 pub paged_sound : (r : Regs) → r.cr0 ≡ 0x80000001 → r.eflags ≡ 2 → r.cpl ≡ 0 → IsSound r
 paged_sound r control flags level = record {

@@ -41,7 +41,7 @@ use Rattle.lazy_flags.specs.declared.operation.FlagOp.TheVariants.{Plain}
 use Rattle.operands.specs.Whole.{whole, ran, ran_at}
 use Rattle.operands.proofs.Statuses.{own_flags, unpacked}
 use Rattle.cpu_core.specs.Families.{is_port_string}
-use Rattle.cpu_core.specs.Plain.{IsReady}
+use Rattle.cpu_core.specs.Plain.{IsSettled}
 use Rattle.cpu_core.specs.Ran.{marked, outcome_of, ended, settled, IsAlone, Runs}
 use Rattle.cpu_core.proofs.Settled.{placed_none, dropped_none, remapped_agrees, agrees_on, agrees_placed, agrees_dropped}
 use Rattle.cpu_core.specs.declared.dispatch.Ran.{Ran}
@@ -161,7 +161,7 @@ module _ {B : Type 0} (rules : Rules B) (pick : Pick) (insn : Insn) (old : Regs)
   still_agrees (Err fault) alone mapped agrees = agrees_dropped new n agrees
 
   -- one that leaves the mode, and uses no port
-  pub alone_runs : (plan : Plan After) (answer : Result Next Fault) → IsReady old m → runs_far insn ≡ false → effect insn old back new.eflags ≡ plan → (ran answer new, n) ≡ tried (by_pick pick) 0 plan m
+  pub alone_runs : (plan : Plan After) (answer : Result Next Fault) → IsSettled old m → runs_far insn ≡ false → effect insn old back new.eflags ≡ plan → (ran answer new, n) ≡ tried (by_pick pick) 0 plan m
       → OnErr answer (new ≡ old) → Steady old new → ((r : Regs) (k : Mem) → remapped insn.op insn.a r k ≡ k) → Keeps m n
       → Runs rules pick insn old back m before (marked answer true) new n before
   alone_runs plan answer ready near is tries kept steady mapped keeps = inside_runs before 0 NoPort plan answer true refl near is (ap (λ (o : Outcome After). (o, n)) (no_port answer) ∙ tries)
@@ -181,7 +181,7 @@ module _ {B : Type 0} (rules : Rules B) (pick : Pick) (insn : Insn) (old : Regs)
       is_alone (Err fault) h = tt
 
   -- a string instruction
-  pub string_runs : (after : B) (given : ℕ) (access : PortUse) (answer : Result Next Fault) (alone : Bool) → IsReady old m → runs_string insn.op ≡ true → Accesses rules access given before after
+  pub string_runs : (after : B) (given : ℕ) (access : PortUse) (answer : Result Next Fault) (alone : Bool) → IsSettled old m → runs_string insn.op ≡ true → Accesses rules access given before after
       → effect insn old back new.eflags ≡ string_plan insn old new.eflags → (ran_at answer access new, n) ≡ tried (by_pick pick) given (string_plan insn old new.eflags) m
       → OnErr answer ((new ≡ old) × (after ≡ before)) → Steady old new → IfOk (marked answer alone) (λ (ran : Ran). OnTrue ran.alone (IsAlone insn before after)) → Keeps m n
       → Runs rules pick insn old back m before (marked answer alone) new n after
@@ -189,7 +189,7 @@ module _ {B : Type 0} (rules : Rules B) (pick : Pick) (insn : Insn) (old : Regs)
       (steady_sound old new steady ready.sound) (still_agrees answer alone (λ r k. string_stays insn.op insn.a r k runs) (steady_agrees old new n steady (agrees_on old m n keeps ready.tables))) stands keeps.physical
 
   -- one of the system, which may load paging and the tables
-  pub system_runs : (after : B) (given : ℕ) (access : PortUse) (answer : Result Next Fault) → IsReady old m → runs_far insn ≡ false → Accesses rules access given before after
+  pub system_runs : (after : B) (given : ℕ) (access : PortUse) (answer : Result Next Fault) → IsSettled old m → runs_far insn ≡ false → Accesses rules access given before after
       → effect insn old back new.eflags ≡ system_effect insn old back → (ran_at answer access new, n) ≡ tried (by_pick pick) given (system_effect insn old back) m
       → OnErr answer ((new ≡ old) × (after ≡ before)) → IsSound new → IfPassed (λ (after : After). PagesAs insn.op insn.a old after.regs) (ran_at answer access new) → Keeps m n
       → Runs rules pick insn old back m before (marked answer false) new n after
@@ -246,7 +246,7 @@ module _ {B : Type 0} (rules : Rules B) (pick : Pick) (insn : Insn) (old : Regs)
       none = subst (λ (w : Outcome After × Mem). IfPassed UsesNone w.0) (sym tries) (tried_ends UsesNone IsAny (by_pick pick) given (string_plan insn old new.eflags) m (uses_none insn old new.eflags is))
 
 -- an instruction of no family
-pub none_runs : {B : Type 0} (rules : Rules B) (pick : Pick) (insn : Insn) (r : Regs) (back : ℕ) (m : Mem) (before : B) (fault : Fault) → IsReady r m → fault ≡ undefined_opcode
+pub none_runs : {B : Type 0} (rules : Rules B) (pick : Pick) (insn : Insn) (r : Regs) (back : ℕ) (m : Mem) (before : B) (fault : Fault) → IsSettled r m → fault ≡ undefined_opcode
     → runs_data insn ≡ false → runs_flow insn ≡ false → runs_string insn.op ≡ false → runs_far insn ≡ false → runs_system insn ≡ false
     → Runs rules pick insn r back m before (Err fault) r m before
 none_runs rules pick insn r back m before fault ready is a b c d e = inside_runs rules pick insn r back m before r m before 0 NoPort no_such (Err fault) true refl d (effect_none insn r back r.eflags a b c e)

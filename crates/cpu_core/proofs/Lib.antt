@@ -1,5 +1,5 @@
 pub mod Modes
-pub mod Covered
+pub mod Breakpoints
 pub mod Rows
 pub mod Windows
 pub mod Fetched

@@ -1,9 +1,11 @@
 -- What an instruction and a delivery leave of memory, and that it stays ready.
-use Rattle.std.proofs.Common.{◌≡◌, ℕ, ◌==◌, Bool, true, false, [], refl, sym, ap, subst, ◌∙◌}
+use Rattle.std.proofs.Common.{◌≡◌, ℕ, ◌==◌, Bool, true, false, List, [], refl, sym, ap, subst, ◌∙◌}
 use Rattle.std.specs.Prelude.{if◌then◌else◌, Result, Ok, Err}
 use Rattle.std.specs.FinMap.{empty}
 use Rattle.mdl_state.specs.declared.Regs.{Regs}
 use Rattle.mdl_state.specs.declared.Fault.{Fault}
+use Rattle.mdl_state.specs.declared.Watch.{Watch}
+use Rattle.mdl_state.specs.Watches.{watching, unwatched}
 use Rattle.mdl_state.specs.State.{Mem}
 use Rattle.mdl_state.specs.Accesses.{Keeps, all_placed, committed, discarded}
 use Rattle.mdl_state.specs.Serving.{Pick, Outcome, Passed, Failed, NoStep, by_pick}
@@ -26,8 +28,10 @@ use Rattle.mdl_effect.specs.Operands.{After}
 use Rattle.mdl_effect.specs.FarEffects.{FarTransfer, runs_far, far_transfer, far_request, far_run, behind_transfer, by_outcome, in_either_task}
 use Rattle.mdl_effect.specs.Ways.{PagesBy, PagesAs}
 use Rattle.mdl_step.specs.Effects.{effect, run_whole, in_own_task}
+use Rattle.mdl_step.specs.Fetching.{Code, Fetches}
 use Rattle.mdl_step.specs.Step.{with_control, remapped}
-use Rattle.cpu_core.specs.Plain.{IsQuiet, IsReady}
+use Rattle.mdl_step.proofs.BareLaws.{fetches_bare}
+use Rattle.cpu_core.specs.Plain.{IsQuiet, IsReady, IsSettled, IsStill}
 use Rattle.cpu_core.specs.Ran.{ended, settled}
 use Rattle.cpu_core.specs.declared.dispatch.Ran.{Ran}
 
@@ -86,10 +90,12 @@ unfolding committed discarded
 ended_holds (Ok ran) n = refl
 ended_holds (Err fault) n = refl
 
--- so memory is quiet where an instruction has ended
-pub run_quiet : (pick : Pick) (insn : Insn) (old : Regs) (back given free : ℕ) (m n : Mem) (result : Result Ran Fault) (l : Left After) → IsQuiet m
-    → run_whole (by_pick pick) insn old back given free m ≡ (l, ended result n) → IsQuiet (ended result n)
-run_quiet pick insn old back given free m n result l quiet e = still_quiet m (ended result n) quiet (subst (λ (v : Left After × Mem). KeepsWatch m v.1) e (whole_keeps pick insn old back given free m)) (ended_holds result n)
+-- so memory is still where an instruction has ended
+pub run_still : (pick : Pick) (insn : Insn) (old : Regs) (back given free : ℕ) (m n : Mem) (result : Result Ran Fault) (l : Left After) → IsStill m
+    → run_whole (by_pick pick) insn old back given free m ≡ (l, ended result n) → IsStill (ended result n)
+run_still pick insn old back given free m n result l still e =
+    let keeps : KeepsWatch m (ended result n) = subst (λ (v : Left After × Mem). KeepsWatch m v.1) e (whole_keeps pick insn old back given free m) in
+    record { held = ended_holds result n; served = keeps.served ∙ still.served }
 
 -- what holds nothing ends as it is
 pub placed_none : (m : Mem) → m.held ≡ [] → committed m ≡ m
@@ -102,17 +108,17 @@ dropped_none m none = ap (λ h. record m { held = h }) (sym none)
 
 -- ---- paging
 
-control_quiet : (number : ℕ) (r : Regs) (m : Mem) → IsQuiet m → IsQuiet (with_control number r m)
-control_quiet number r m quiet = by_number (number == 0) (number == 3)
+control_still : (number : ℕ) (r : Regs) (m : Mem) → IsStill m → IsStill (with_control number r m)
+control_still number r m still = by_number (number == 0) (number == 3)
   where
-    by_number : (a b : Bool) → IsQuiet (if a then record m { paging = has_paging r } else if b then record m { cr3 = r.cr3; cache = empty } else m)
-    by_number true b = record { held = quiet.held; served = quiet.served; watch = quiet.watch; hits = quiet.hits }
-    by_number false true = record { held = quiet.held; served = quiet.served; watch = quiet.watch; hits = quiet.hits }
-    by_number false false = quiet
+    by_number : (a b : Bool) → IsStill (if a then record m { paging = has_paging r } else if b then record m { cr3 = r.cr3; cache = empty } else m)
+    by_number true b = record { held = still.held; served = still.served }
+    by_number false true = record { held = still.held; served = still.served }
+    by_number false false = still
 
-pub remapped_quiet : (op : Op) (a : Operand) (r : Regs) (m : Mem) → IsQuiet m → IsQuiet (remapped op a r m)
-remapped_quiet ops.Mov (Creg number) r m quiet = control_quiet number r m quiet
-remapped_quiet _ _ r m quiet = quiet
+remapped_still : (op : Op) (a : Operand) (r : Regs) (m : Mem) → IsStill m → IsStill (remapped op a r m)
+remapped_still ops.Mov (Creg number) r m still = control_still number r m still
+remapped_still _ _ r m still = still
 
 control_agrees : (number : ℕ) (old new : Regs) (m : Mem) → PagesBy (number == 0) (number == 3) old new → Agree old m → Agree new (with_control number new m)
 control_agrees number old new m h agrees = by_number (number == 0) (number == 3) h
@@ -141,11 +147,45 @@ agrees_dropped r n agrees = record { paging = agrees.paging; cr3 = agrees.cr3 }
 
 -- ---- behind an instruction
 
-settled_quiet : (result : Result Ran Fault) (insn : Insn) (r : Regs) (n : Mem) → IsQuiet (ended result n) → IsQuiet (settled result insn r n)
-settled_quiet (Ok ran) insn r n quiet = remapped_quiet insn.op insn.a r (committed n) quiet
-settled_quiet (Err fault) insn r n quiet = quiet
+settled_still : (result : Result Ran Fault) (insn : Insn) (r : Regs) (n : Mem) → IsStill (ended result n) → IsStill (settled result insn r n)
+settled_still (Ok ran) insn r n still = remapped_still insn.op insn.a r (committed n) still
+settled_still (Err fault) insn r n still = still
 
-pub settled_ready : (pick : Pick) (insn : Insn) (old : Regs) (back given free : ℕ) (new : Regs) (m n : Mem) (result : Result Ran Fault) (k : Mem) (l : Left After) → IsQuiet m
-    → run_whole (by_pick pick) insn old back given free m ≡ (l, ended result n) → IsSound new → Agree new (settled result insn new n) → k ≡ settled result insn new n → IsReady new k
-settled_ready pick insn old back given free new m n result k l quiet e sound tables same = subst (λ (i : Mem). IsReady new i) (sym same)
-    (record { sound = sound; tables = tables; quiet = settled_quiet result insn new n (run_quiet pick insn old back given free m n result l quiet e) })
+pub run_settled : (pick : Pick) (insn : Insn) (old : Regs) (back given free : ℕ) (new : Regs) (m n : Mem) (result : Result Ran Fault) (k : Mem) (l : Left After) → IsStill m
+    → run_whole (by_pick pick) insn old back given free m ≡ (l, ended result n) → IsSound new → Agree new (settled result insn new n) → k ≡ settled result insn new n → IsSettled new k
+run_settled pick insn old back given free new m n result k l still e sound tables same = subst (λ (i : Mem). IsSettled new i) (sym same)
+    (record { sound = sound; tables = tables; still = settled_still result insn new n (run_still pick insn old back given free m n result l still e) })
+
+-- ---- beside breakpoints
+
+-- where none is looked for, memory is as it is without them
+pub bare_is : (m : Mem) (ws : List Watch) (hits : ℕ) → ws ≡ [] → hits ≡ 0 → unwatched m ≡ watching m ws hits
+bare_is m ws hits none zero = sym (ap (λ (vs : List Watch). watching m vs hits) none ∙ ap (λ (h : ℕ). watching m [] h) zero)
+
+-- and is ready behind an instruction
+pub settled_ready : (r : Regs) (m : Mem) (ws : List Watch) (hits : ℕ) → IsSettled r m → ws ≡ [] → hits ≡ 0 → IsReady r (watching m ws hits)
+settled_ready r m ws hits settled none zero = record {
+  sound = settled.sound;
+  tables = record { paging = settled.tables.paging; cr3 = settled.tables.cr3 };
+  quiet = record { held = settled.still.held; served = settled.still.served; watch = none; hits = zero };
+}
+
+-- what was ready is so behind a fetch
+pub fetched_ready : (r : Regs) (m n : Mem) (ws : List Watch) (hits : ℕ) → IsReady r (watching m ws hits) → Keeps m n → n.held ≡ m.held → n.served ≡ m.served → IsReady r (watching n ws hits)
+fetched_ready r m n ws hits ready keeps held served = record {
+  sound = ready.sound;
+  tables = record { paging = keeps.paging ∙ ready.tables.paging; cr3 = keeps.cr3 ∙ ready.tables.cr3 };
+  quiet = record { held = held ∙ ready.quiet.held; served = served ∙ ready.quiet.served; watch = ready.quiet.watch; hits = ready.quiet.hits };
+}
+
+-- and settled, whatever breakpoints are looked for
+pub ready_settled : (r : Regs) (m : Mem) (ws vs : List Watch) (hits more : ℕ) → IsReady r (watching m ws hits) → IsSettled r (watching m vs more)
+ready_settled r m ws vs hits more ready = record {
+  sound = ready.sound;
+  tables = record { paging = ready.tables.paging; cr3 = ready.tables.cr3 };
+  still = record { held = ready.quiet.held; served = ready.quiet.served };
+}
+
+pub fetches_beside : (pick : Pick) (r : Regs) (m n : Mem) (ws : List Watch) (hits : ℕ) (code : Code) → ws ≡ [] → hits ≡ 0 → Fetches (by_pick pick) r m code n → Fetches (by_pick pick) r (watching m ws hits) code (watching n ws hits)
+fetches_beside pick r m n ws hits code none zero h = subst (λ (k : Mem). Fetches (by_pick pick) r k code (watching n ws hits)) (bare_is m ws hits none zero)
+    (subst (λ (k : Mem). Fetches (by_pick pick) r (unwatched m) code k) (bare_is n ws hits none zero) (fetches_bare pick r m n code h))

@@ -21,7 +21,6 @@ use Rattle.insn_decode.specs.declared.refusals.Undecoded.{Undecoded}
 use Rattle.insn_decode.specs.declared.refusals.Undecoded.TheVariants as causes
 use Rattle.insn_decode.specs.Decoded as decoded
 use Rattle.insn_decode.specs.Decoded.{Came}
-use Rattle.cpu_core.specs.Plain.{IsQuiet}
 use Rattle.cpu_core.specs.Window.{Window, byte_plan, Gives, IsAt}
 
 -- ---- one byte
@@ -126,15 +125,6 @@ then_stays l m n a b = record {
   };
   held = b.held ∙ a.held;
   watch = then_kept a.watch b.watch;
-}
-
--- memory that was quiet is quiet again
-pub stays_quiet : (m n : Mem) → Stays m n → IsQuiet m → IsQuiet n
-stays_quiet m n s q = record {
-  held = s.held ∙ q.held;
-  served = s.watch.served ∙ q.served;
-  watch = s.watch.watch ∙ q.watch;
-  hits = s.watch.hits q.watch ∙ q.hits;
 }
 
 gives_stays : (pick : Pick) (w v : Window) (r : Result ℕ Fault) → Gives pick w r v → Stays w.mem v.mem

@@ -12,7 +12,6 @@ use Rattle.mdl_effect.specs.Operands.{PortUse}
 use Rattle.mdl_effect.specs.Ports.{Accesses}
 use Rattle.mdl_step.specs.Effects.{run_whole}
 use Rattle.mdl_step.specs.Step.{remapped}
-use Rattle.cpu_core.specs.Plain.{IsQuiet}
 
 -- The instruction passes, with the answer of the port that it uses, and memory is then remapped.
 pub record Passes {B : Type 0} (rules : Rules B) (pick : Pick) (insn : Insn) (old : Regs) (back : ℕ) (m : Mem) (before : B) (new : Regs) (next : Next) (n : Mem) (after : B) : Type 0 where
@@ -22,7 +21,6 @@ pub record Passes {B : Type 0} (rules : Rules B) (pick : Pick) (insn : Insn) (ol
   pub placed : Mem
   pub passed : run_whole (by_pick pick) insn old back given new.eflags m ≡ left (Passed (record { regs = new; next = next; access = access })) rest placed
   pub moves : Accesses rules access given before after
-  pub quiet : IsQuiet placed
   pub mapped : n ≡ remapped insn.op insn.a new placed
 
 -- It faults, in the task that has these registers.

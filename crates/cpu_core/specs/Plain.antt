@@ -4,6 +4,11 @@ use Rattle.mdl_state.specs.declared.Regs.{Regs}
 use Rattle.mdl_state.specs.State.{Mem}
 use Rattle.mdl_cpu.specs.Steady.{Agree, IsSound}
 
+-- nothing is held, and no items are left
+pub record IsStill (m : Mem) : Type 0 where
+  pub held : m.held ≡ []
+  pub served : m.served ≡ []
+
 -- nothing is held, no items are left, and no breakpoint is looked for or was met
 pub record IsQuiet (m : Mem) : Type 0 where
   pub held : m.held ≡ []
@@ -22,3 +27,9 @@ pub record IsReady (r : Regs) (m : Mem) : Type 0 where
   pub sound : IsSound r
   pub tables : Agree r m
   pub quiet : IsQuiet m
+
+-- the same, whatever breakpoints are looked for
+pub record IsSettled (r : Regs) (m : Mem) : Type 0 where
+  pub sound : IsSound r
+  pub tables : Agree r m
+  pub still : IsStill m

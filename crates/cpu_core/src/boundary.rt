@@ -5,16 +5,21 @@ ghost use Rattle.std.specs.Bool.{OnTrue, OnFalse};
 ghost use Rattle.mdl_state.specs.Bytes.{bit};
 ghost use Rattle.mdl_state.specs.declared.Activity.TheVariants.{Running};
 ghost use Rattle.mdl_step.specs.Boundary as rows;
-ghost use Rattle.mdl_step.specs.Boundary.{takes_nmi, takes_trap, takes_line, boundary_rows};
+ghost use Rattle.mdl_step.specs.Boundary.{takes_nmi, takes_trap, takes_break, takes_line, boundary_rows, hits_here};
 ghost use Rattle.mdl_cpu.specs.SystemFlags.{IF};
 ghost use Rattle.mdl_step.specs.Step.{hold_after, activity_after};
 ghost use Rattle.operands.specs.Whole.{whole};
 ghost use Rattle.cpu_core.specs.Rows.{told};
 
-use mdl_state::{Activity, Latches, Next, Regs};
+use debug_regs::execute_hit;
+use mdl_state::{Activity, Latches, Next, Regs, Seg};
+use seg_unit::segment;
 
 /// The number of IF in EFLAGS.
 const INTERRUPTS: u8 = 9;
+
+/// The number of RF in EFLAGS.
+pub(crate) const RESUME: u8 = 16;
 
 /// Every interrupt and debug trap is held back for one instruction.
 const HOLD_ALL: u8 = 1;
@@ -22,25 +27,15 @@ const HOLD_ALL: u8 = 1;
 /// The interrupt line is held back for one instruction.
 const HOLD_INTERRUPTS: u8 = 2;
 
-/// What the next step is. Where a breakpoint comes before an instruction, that is not told.
+/// What the next step is. A breakpoint comes with the bits of DR6 of those that are met.
 #[derive(Clone, Copy)]
 pub(crate) enum Row {
     Idle,
     Trap,
+    Break(u32),
     Nmi,
     Line,
     Execute,
-}
-
-/// What a step is, up to where an instruction is executed.
-#[derive(Clone, Copy)]
-pub(crate) enum Turn {
-    /// An instruction is executed next, and whether TF is 1 as it begins.
-    Executes(bool),
-    /// It is made.
-    Made,
-    /// It is not built.
-    Unbuilt,
 }
 
 /// Whether a bit is 1.
@@ -75,6 +70,14 @@ fn takes_trap(latches: &Latches) -> bool
     latches.pending != 0 && latches.hold != HOLD_ALL
 }
 
+/// An execution breakpoint is met, RF lets it break, and nothing holds it back.
+#[tactic(auto, using(crate::proofs::Modes::modes))]
+fn takes_break(regs: &Regs, latches: &Latches, hits: u32) -> bool
+    ensures { (flags : ℕ) → result ≡ takes_break (whole regs.now flags) latches.now hits }
+{
+    hits != 0 && !has(regs.eflags, RESUME) && latches.hold != HOLD_ALL
+}
+
 /// The board wants an interrupt, which IF lets in, and nothing holds it back.
 #[tactic(auto, using(crate::proofs::Modes::modes))]
 fn takes_line(wants: bool, regs: &Regs, latches: &Latches) -> bool
@@ -100,13 +103,36 @@ fn between(wants: bool, regs: &Regs, latches: &Latches, rest: Row) -> Row
     }
 }
 
-/// The first row that holds, where no breakpoint is enabled.
-#[inline(always)]
-pub(crate) fn boundary(activity: Activity, wants: bool, regs: &Regs, latches: &Latches) -> Row
-    ensures { (flags : ℕ) → told result ≡ boundary_rows activity wants 0 (whole regs.now flags) latches.now }
+/// The same, but a breakpoint comes before an NMI, and else an instruction is executed.
+fn before(wants: bool, hits: u32, regs: &Regs, latches: &Latches) -> Row
+    ensures { (flags : ℕ) → told result ≡ (if takes_trap latches.now then rows.Trap else if takes_break (whole regs.now flags) latches.now hits then rows.Break hits
+        else if takes_nmi latches.now then rows.Nmi else if takes_line wants (whole regs.now flags) latches.now then rows.Line else rows.Execute) }
+{
+    if takes_trap(latches) {
+        Row::Trap
+    } else if takes_break(regs, latches, hits) {
+        Row::Break(hits)
+    } else if takes_nmi(latches) {
+        Row::Nmi
+    } else if takes_line(wants, regs, latches) {
+        Row::Line
+    } else {
+        Row::Execute
+    }
+}
+
+/// The first row that holds. `hits` are the bits of DR6 of the breakpoints at CS:EIP.
+pub(crate) fn boundary(
+    activity: Activity,
+    wants: bool,
+    hits: u32,
+    regs: &Regs,
+    latches: &Latches,
+) -> Row
+    ensures { (flags : ℕ) → told result ≡ boundary_rows activity wants hits (whole regs.now flags) latches.now }
 {
     match activity {
-        Activity::Running => between(wants, regs, latches, Row::Execute),
+        Activity::Running => before(wants, hits, regs, latches),
         Activity::Halted => between(wants, regs, latches, Row::Idle),
         Activity::Shutdown => {
             if takes_nmi(latches) {
@@ -116,6 +142,15 @@ pub(crate) fn boundary(activity: Activity, wants: bool, regs: &Regs, latches: &L
             }
         }
     }
+}
+
+/// The bits of DR6 of the execution breakpoints at CS:EIP.
+#[tactic(auto, unfolding(mdl_state::specs::Registers::seg_of), using(crate::proofs::Breakpoints::whole_hits))]
+pub(crate) fn hits_here(regs: &Regs) -> u32
+    ensures { (flags : ℕ) → result ≡ hits_here (whole regs.now flags) }
+{
+    let code = segment(regs, Seg::Cs);
+    execute_hit(regs, code.base.wrapping_add(regs.eip))
 }
 
 /// Whether the processor runs, and no debug trap and no NMI waits.

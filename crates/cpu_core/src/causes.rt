@@ -6,7 +6,7 @@ ghost use Rattle.mdl_cpu.specs.Causes.{event_cause, soft_cause};
 ghost use Rattle.mdl_cpu.specs.SystemFlags.{TF};
 ghost use Rattle.mdl_state.specs.Bytes.{bit};
 ghost use Rattle.mdl_step.specs.Delivering.{BT};
-ghost use Rattle.mdl_step.specs.Step.{step_trap, task_trap};
+ghost use Rattle.mdl_step.specs.Step.{break_cause, step_trap, task_trap};
 ghost use Rattle.fault_delivery.specs.Arrivals.{arrival};
 
 use fault_delivery::{Cause, Delivered};
@@ -26,6 +26,20 @@ pub(crate) fn event_cause(regs: &Regs, vector: u8) -> Cause
         code: None,
         soft: false,
         fault: false,
+        ext: true,
+        back: regs.eip,
+    }
+}
+
+/// The fault of a breakpoint, which is met before the instruction.
+pub(crate) fn break_cause(regs: &Regs) -> Cause
+    ensures { result ≡ break_cause regs.now }
+{
+    Cause {
+        vector: DEBUG,
+        code: None,
+        soft: false,
+        fault: true,
         ext: true,
         back: regs.eip,
     }
@@ -71,22 +85,23 @@ pub(crate) fn pending_at(delivered: Delivered, pending: u16) -> u16
 /// The bit of DR6 of a single step.
 const SINGLE_STEP: u16 = 0x4000;
 
-/// The bits of DR6 that are pending behind an instruction: that of a single step, where TF was 1 as it
+/// The bits of DR6 of the debug traps behind an instruction: that of a single step, where TF was 1 as it
 /// began, and that of a task whose T bit is set. A software interrupt and a task switch come without the
 /// first.
-#[tactic(auto, using(crate::proofs::Pending::or_zero))]
-pub(crate) fn pending_after(next: Next, traced: bool, pending: u16) -> u16
-    ensures { (r : Registers) → bit r.eflags TF ≡ traced → result ≡ bit_or pending (bit_or 0 (bit_or (step_trap next r) (task_trap next))) }
+#[tactic(auto, using(crate::proofs::Pending::or_zero, crate::proofs::Pending::zero_or))]
+fn debug_traps(next: Next, traced: bool) -> u16
+    ensures { (r : Registers) → bit r.eflags TF ≡ traced → result ≡ bit_or (step_trap next r) (task_trap next) }
 {
     match next {
-        Next::Soft(_) | Next::Task(false) => pending,
-        Next::Task(true) => pending | TASK_TRAP,
-        _ => {
-            if traced {
-                pending | SINGLE_STEP
-            } else {
-                pending
-            }
-        }
+        Next::Soft(_) | Next::Task(false) => 0,
+        Next::Task(true) => TASK_TRAP,
+        _ => { if traced { SINGLE_STEP } else { 0 } }
     }
+}
+
+/// The bits of DR6 that are pending behind an instruction that met these breakpoints.
+pub(crate) fn pending_after(next: Next, traced: bool, hits: u16, pending: u16) -> u16
+    ensures { (r : Registers) → bit r.eflags TF ≡ traced → result ≡ bit_or pending (bit_or hits (bit_or (step_trap next r) (task_trap next))) }
+{
+    pending | (hits | debug_traps(next, traced))
 }

@@ -7,7 +7,7 @@ ghost use Rattle.mdl_cpu.specs.Segments.{who_of};
 ghost use Rattle.cpu_core.specs.Window.{Gives, HasEight, gives_low};
 
 use mdl_insn::Fetch;
-use mdl_state::{Fault, Regs, Seg, Size, Who};
+use mdl_state::{Access, Fault, Place, Regs, Seg, Size, Who};
 use mem_iface::Linear;
 use operands::general_protection;
 use seg_unit::{segment, who};
@@ -37,6 +37,75 @@ impl<L: Linear> Fetch for Code<L> {
         let byte = self.lin.read(at, Size::B1, self.who)?;
         self.offset += 1;
         Ok(byte as u8)
+    }
+}
+
+/// The memory as an instruction goes on with it.
+impl<L: Linear> Linear for Code<L> {
+    ghost seen = { λ s. L.seen s.lin };
+
+    ghost pick = { L.pick };
+
+    ghost policy = { L.policy };
+
+    ghost meets = { L.meets };
+
+    #[inline(always)]
+    fn translate(&mut self, lin: u32, size: Size, access: Access) -> Result<Place, Fault> {
+        self.lin.translate(lin, size, access)
+    }
+
+    #[inline(always)]
+    fn get(&self, place: Place, size: Size) -> u32 {
+        self.lin.get(place, size)
+    }
+
+    #[inline(always)]
+    fn hold(&mut self, place: Place, size: Size, value: u32) {
+        self.lin.hold(place, size, value);
+    }
+
+    #[inline(always)]
+    fn read(&mut self, lin: u32, size: Size, who: Who) -> Result<u32, Fault> {
+        self.lin.read(lin, size, who)
+    }
+
+    #[inline(always)]
+    fn near(&self, lin: u32, who: Who) -> Option<u64> {
+        self.lin.near(lin, who)
+    }
+
+    #[inline(always)]
+    fn write(&mut self, lin: u32, size: Size, value: u32, who: Who) -> Result<(), Fault> {
+        self.lin.write(lin, size, value, who)
+    }
+
+    fn room(&self) -> u16 {
+        self.lin.room()
+    }
+
+    fn commit(&mut self) {
+        self.lin.commit();
+    }
+
+    fn discard(&mut self) {
+        self.lin.discard();
+    }
+
+    fn load_cr3(&mut self, value: u32) {
+        self.lin.load_cr3(value);
+    }
+
+    fn set_paging(&mut self, on: bool) {
+        self.lin.set_paging(on);
+    }
+
+    fn set_a20(&mut self, on: bool) {
+        self.lin.set_a20(on);
+    }
+
+    fn walks(&self) -> u64 {
+        self.lin.walks()
     }
 }
 
@@ -80,7 +149,7 @@ impl<L: Linear> Code<L> {
 
     /// The eight bytes at CS:EIP, where they lie within the limit of CS and memory has them at hand.
     #[inline(always)]
-    pub(crate) fn near(&self, regs: &Regs) -> Option<u64>
+    pub(crate) fn eight(&self, regs: &Regs) -> Option<u64>
         ensures { IfSome result (λ word. HasEight L.pick regs.now (L.seen self.now.lin) word) }
     {
         let code = segment(regs, Seg::Cs);

@@ -9,6 +9,7 @@ ghost use Rattle.mdl_state.specs.Boot.{reset_core};
 ghost use Rattle.mdl_state.specs.Machine.{Machine};
 ghost use Rattle.mdl_state.specs.Serving.{Passed, by_pick};
 ghost use Rattle.mdl_insn.specs.declared.instruction.Insn.{Insn as Instruction};
+ghost use Rattle.mdl_cpu.specs.Breakpoints.{data_breakpoints};
 ghost use Rattle.mdl_cpu.specs.Causes.{event_cause};
 ghost use Rattle.mdl_cpu.specs.SystemFlags.{TF};
 ghost use Rattle.mdl_effect.specs.Operands.{PortUse};
@@ -16,19 +17,22 @@ ghost use Rattle.mem_iface.specs.Rules.{rules_of};
 ghost use Rattle.mdl_step.specs.Boundary as rows;
 ghost use Rattle.mdl_step.specs.Delivering.{delivered};
 ghost use Rattle.mdl_step.specs.Events.{with_nmi, reset_with};
-ghost use Rattle.mdl_step.specs.Step.{EndsBy, activity_after, at_nmi, at_trap, faulted, hold_after, is_covered, landed, masks, passed_by, resumed};
+ghost use Rattle.mdl_step.specs.Step.{EndsBy, activity_after, at_break, at_nmi, at_trap, break_cause, faulted, hold_after, landed, masks, passed_by, resumed};
 ghost use Rattle.cpu_core.specs.Plain.{IsPlain, IsReady};
 ghost use Rattle.cpu_core.specs.Rows.{told};
 ghost use Rattle.cpu_core.specs.Turns.{Executed, Takes};
 
 use crate::boundary::{Row, activity_after, hold_after};
 use crate::causes::{
-    DEBUG, NON_MASKABLE, activity_at, event_cause, pending_after, pending_at, soft_cause,
+    DEBUG, NON_MASKABLE, activity_at, break_cause, event_cause, pending_after, pending_at,
+    soft_cause,
 };
 use crate::code::Code;
-use crate::decoding::decode;
-use crate::execute::{execute, land, masks};
+use crate::decoding::{decode, decode_far};
+use crate::execute::{execute, is_traced, land, masks};
 use crate::reset::{clear_latches, reset_regs};
+use arrayvec::ArrayVec;
+use debug_regs::{Watched, data_breakpoints};
 use fault_delivery::{Cause, fault_cause, note_address};
 use insn_decode::blank;
 use lazy_flags::Flags;
@@ -49,7 +53,7 @@ pub struct Cpu<L: Linear, P: Ports> {
     pub(crate) activity: Activity,
     pub(crate) latches: Latches,
     pub(crate) steps: u64,
-    pub(crate) code: Code<L>,
+    pub(crate) code: Watched<Code<L>>,
     pub(crate) ports: P,
     pub(crate) insn: Insn,
 }
@@ -58,6 +62,7 @@ impl<L: Linear, P: Ports> Model for Cpu<L, P> {
     ghost use Rattle.std.specs.Coded.{codes};
     ghost use Rattle.mdl_state.specs.Codes.{mem_code};
     ghost use Rattle.mdl_state.specs.Machine.{Machine};
+    ghost use Rattle.mdl_state.specs.Watches.{watching};
     ghost use Rattle.operands.specs.Whole.{whole};
     ghost use Rattle.cpu_core.specs.Plain.{IsReady};
 
@@ -68,12 +73,12 @@ impl<L: Linear, P: Ports> Model for Cpu<L, P> {
     ghost view = { λ p. record {
       state = record {
         core = record { regs = whole p.regs p.flags; activity = p.activity; latches = p.latches; steps = p.steps };
-        mem = L.seen p.code.lin;
+        mem = watching (L.seen p.code.inside.lin) p.code.watch.items p.code.hits;
       };
       board = p.ports;
     } };
 
-    ghost invariant = { λ p. IsReady (whole p.regs p.flags) (L.seen p.code.lin) };
+    ghost invariant = { λ p. IsReady (whole p.regs p.flags) (watching (L.seen p.code.inside.lin) p.code.watch.items p.code.hits) };
 }
 
 impl<L: Linear, P: Ports> Cpu<L, P> {
@@ -92,7 +97,7 @@ impl<L: Linear, P: Ports> Cpu<L, P> {
             activity: Activity::Running,
             latches: clear_latches(),
             steps: 0,
-            code: Code::new(lin),
+            code: Watched::new(Code::new(lin)),
             ports,
             insn: blank(),
         }
@@ -112,7 +117,7 @@ impl<L: Linear, P: Ports> Cpu<L, P> {
             activity,
             latches,
             steps: 0,
-            code: Code::new(lin),
+            code: Watched::new(Code::new(lin)),
             ports,
             insn: blank(),
         }
@@ -127,7 +132,7 @@ impl<L: Linear, P: Ports> Cpu<L, P> {
         ensures a20 { self.new.state.mem.physical.a20 ≡ self.old.state.mem.physical.a20 }
     {
         self.regs.eflags = self.flags.pack(self.regs.eflags);
-        let delivered = fault_delivery::deliver(&mut self.regs, &mut self.code.lin, cause);
+        let delivered = fault_delivery::deliver(&mut self.regs, &mut self.code, cause);
         self.flags = Flags::unpack(self.regs.eflags);
         self.activity = activity_at(delivered);
         self.latches.pending = pending_at(delivered, self.latches.pending);
@@ -165,12 +170,13 @@ impl<L: Linear, P: Ports> Cpu<L, P> {
     }
 
     /// What follows an instruction that passed: a software interrupt is delivered, and a trap is pending.
-    /// `traced` tells whether TF was 1 as it began.
+    /// `traced` tells whether TF was 1 as it began, `hits` are the bits of the data breakpoints that it
+    /// met.
     #[inline(never)]
-    fn complete_with(&mut self, op: Op, next: Next, back: u32, traced: bool)
+    fn complete_with(&mut self, op: Op, next: Next, back: u32, traced: bool, hits: u16)
         requires served { self.old.state.mem.served ≡ [] }
         ensures made { (insn : Instruction) (old : Registers) (access : PortUse) → insn.op ≡ op → bit old.eflags TF ≡ traced →
-            passed_by next (by_pick L.pick) (record self.old.state.core { regs = old }) insn (record { regs = self.old.state.core.regs; next = next; access = access }) back 0 self.old.state.mem
+            passed_by next (by_pick L.pick) (record self.old.state.core { regs = old }) insn (record { regs = self.old.state.core.regs; next = next; access = access }) back hits self.old.state.mem
             ≡ (Passed self.new.state.core, self.new.state.mem) }
         ensures board { self.new.board ≡ self.old.board }
         ensures steps { self.new.state.core.steps ≡ self.old.state.core.steps }
@@ -178,17 +184,17 @@ impl<L: Linear, P: Ports> Cpu<L, P> {
         ensures a20 { self.new.state.mem.physical.a20 ≡ self.old.state.mem.physical.a20 }
     {
         self.land(op, next, back);
-        self.latches.pending = pending_after(next, traced, self.latches.pending);
+        self.latches.pending = pending_after(next, traced, hits, self.latches.pending);
         if let Next::Soft(vector) = next {
             self.deliver(soft_cause(vector, back));
         }
     }
 
-    /// The same, with what mostly follows in line.
+    /// The same, where TF was 0 and no breakpoint was met, with what mostly follows in line.
     #[inline(always)]
-    fn complete(&mut self, op: Op, next: Next, back: u32, traced: bool)
+    fn complete(&mut self, op: Op, next: Next, back: u32)
         requires served { self.old.state.mem.served ≡ [] }
-        ensures made { (insn : Instruction) (old : Registers) (access : PortUse) → insn.op ≡ op → bit old.eflags TF ≡ traced →
+        ensures made { (insn : Instruction) (old : Registers) (access : PortUse) → insn.op ≡ op → bit old.eflags TF ≡ false →
             passed_by next (by_pick L.pick) (record self.old.state.core { regs = old }) insn (record { regs = self.old.state.core.regs; next = next; access = access }) back 0 self.old.state.mem
             ≡ (Passed self.new.state.core, self.new.state.mem) }
         ensures board { self.new.board ≡ self.old.board }
@@ -196,31 +202,27 @@ impl<L: Linear, P: Ports> Cpu<L, P> {
         ensures served { self.new.state.mem.served ≡ [] }
         ensures a20 { self.new.state.mem.physical.a20 ≡ self.old.state.mem.physical.a20 }
     {
-        if traced {
-            self.complete_with(op, next, back, true);
-            return;
-        }
         match next {
             Next::Follow => self.land(op, Next::Follow, back),
             Next::Landed => self.land(op, Next::Landed, back),
             Next::Again => self.land(op, Next::Again, back),
-            _ => self.complete_with(op, next, back, false),
+            _ => self.complete_with(op, next, back, false, 0),
         }
     }
 
-    /// Executes the instruction at CS:EIP, or delivers its fault. Answers whether a port may have been
-    /// written. `traced` tells whether TF is 1.
+    /// Executes the instruction at CS:EIP, or delivers its fault, where TF is 0 and no data breakpoint is
+    /// enabled. Answers whether a port may have been written.
     #[inline(always)]
-    pub(crate) fn execute(&mut self, traced: bool) -> bool
-        requires covered { is_covered self.old.state.core.regs ≡ true }
-        requires traced { bit self.old.state.core.regs.eflags TF ≡ traced }
+    pub(crate) fn execute(&mut self) -> bool
+        requires data { data_breakpoints self.old.state.core.regs ≡ [] }
+        requires untraced { bit self.old.state.core.regs.eflags TF ≡ false }
         ensures executed { Executed (rules_of P.Ports) L.pick self.old self.new }
         ensures steps { self.new.state.core.steps ≡ self.old.state.core.steps }
         ensures served { self.new.state.mem.served ≡ [] }
         ensures a20 { self.new.state.mem.physical.a20 ≡ self.old.state.mem.physical.a20 }
         ensures board { OnFalse result (self.new.board ≡ self.old.board) }
     {
-        let count = match decode(&mut self.code, &self.regs, &mut self.insn) {
+        let count = match decode(&mut self.code.inside, &self.regs, &mut self.insn) {
             Ok(count) => count,
             Err(fault) => {
                 self.fault(fault);
@@ -231,14 +233,57 @@ impl<L: Linear, P: Ports> Cpu<L, P> {
         match execute(
             &mut self.regs,
             &mut self.flags,
-            &mut self.code.lin,
+            &mut self.code.inside.lin,
             &mut self.ports,
             &self.insn,
             back,
         ) {
             Ok(ran) => {
                 let op = self.insn.op;
-                self.complete(op, ran.next, back, traced);
+                self.complete(op, ran.next, back);
+                !ran.alone
+            }
+            Err(fault) => {
+                self.fault(fault);
+                false
+            }
+        }
+    }
+
+    /// The same in every case: data breakpoints are looked for while the instruction runs. A fault drops
+    /// those that it met.
+    #[inline(never)]
+    pub(crate) fn execute_watched(&mut self) -> bool
+        ensures executed { Executed (rules_of P.Ports) L.pick self.old self.new }
+        ensures steps { self.new.state.core.steps ≡ self.old.state.core.steps }
+        ensures served { self.new.state.mem.served ≡ [] }
+        ensures a20 { self.new.state.mem.physical.a20 ≡ self.old.state.mem.physical.a20 }
+        ensures board { OnFalse result (self.new.board ≡ self.old.board) }
+    {
+        let count = match decode_far(&mut self.code.inside, &self.regs, &mut self.insn) {
+            Ok(count) => count,
+            Err(fault) => {
+                self.fault(fault);
+                return false;
+            }
+        };
+        let back = self.regs.eip.wrapping_add(count as u32);
+        let traced = is_traced(&self.regs);
+        self.code.look_for(data_breakpoints(&self.regs));
+        let answer = execute(
+            &mut self.regs,
+            &mut self.flags,
+            &mut self.code,
+            &mut self.ports,
+            &self.insn,
+            back,
+        );
+        let hits = self.code.hits;
+        self.code.look_for(ArrayVec::new());
+        match answer {
+            Ok(ran) => {
+                let op = self.insn.op;
+                self.complete_with(op, ran.next, back, traced, hits);
                 !ran.alone
             }
             Err(fault) => {
@@ -260,6 +305,22 @@ impl<L: Linear, P: Ports> Cpu<L, P> {
         let cause = event_cause(&self.regs, DEBUG);
         self.regs.dr6 |= self.latches.pending as u32;
         self.latches.pending = 0;
+        self.deliver(cause);
+    }
+
+    /// Delivers the fault of the breakpoints at CS:EIP, with these bits of DR6. What was held back no longer
+    /// is.
+    fn meet(&mut self, hits: u32)
+        ensures delivered { delivered (by_pick L.pick) (break_cause self.old.state.core.regs) (at_break self.old.state.core hits) self.old.state.mem
+            ≡ (Passed self.new.state.core, self.new.state.mem) }
+        ensures board { self.new.board ≡ self.old.board }
+        ensures steps { self.new.state.core.steps ≡ self.old.state.core.steps }
+        ensures served { self.new.state.mem.served ≡ [] }
+        ensures a20 { self.new.state.mem.physical.a20 ≡ self.old.state.mem.physical.a20 }
+    {
+        let cause = break_cause(&self.regs);
+        self.regs.dr6 |= hits;
+        self.latches.hold = 0;
         self.deliver(cause);
     }
 
@@ -297,7 +358,6 @@ impl<L: Linear, P: Ports> Cpu<L, P> {
     pub(crate) fn take(&mut self, row: Row)
         requires busy { told row ≡ rows.Idle → ⊥ }
         requires event { told row ≡ rows.Execute → ⊥ }
-        requires covered { is_covered self.old.state.core.regs ≡ true }
         requires wants { told row ≡ rows.Line → P.wants self.old.board ≡ true }
         ensures taken { Takes (told row) (rules_of P.Ports) L.pick self.old self.new }
         ensures steps { self.new.state.core.steps ≡ self.old.state.core.steps }
@@ -309,6 +369,7 @@ impl<L: Linear, P: Ports> Cpu<L, P> {
             Row::Line => self.interrupt(),
             Row::Nmi => self.take_nmi(),
             Row::Trap => self.trap(),
+            Row::Break(hits) => self.meet(hits),
             Row::Idle | Row::Execute => unreachable!(),
         }
     }
@@ -322,7 +383,7 @@ impl<L: Linear, P: Ports> Cpu<L, P> {
         ensures board { self.new.board ≡ self.old.board }
     {
         if wrote {
-            self.code.lin.set_a20(self.ports.a20());
+            self.code.inside.lin.set_a20(self.ports.a20());
         }
     }
 
@@ -352,9 +413,9 @@ impl<L: Linear, P: Ports> Cpu<L, P> {
         self.flags = Flags::unpack(self.regs.eflags);
         self.activity = Activity::Running;
         self.latches = clear_latches();
-        self.code.lin.set_paging(false);
-        self.code.lin.load_cr3(0);
-        self.code.lin.set_a20(self.ports.a20());
+        self.code.set_paging(false);
+        self.code.load_cr3(0);
+        self.code.set_a20(self.ports.a20());
     }
 
     /// Latches a non-maskable interrupt. Manual, chapter 9.

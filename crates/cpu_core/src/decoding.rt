@@ -5,7 +5,6 @@ ghost use Rattle.mdl_state.specs.Accesses.{Keeps};
 ghost use Rattle.mdl_state.specs.Serving.{by_pick};
 ghost use Rattle.mdl_step.specs.Fetching.{Instruction, Refused, Fetches, is_wide};
 ghost use Rattle.operands.specs.Whole.{whole};
-ghost use Rattle.cpu_core.specs.Plain.{IsQuiet};
 ghost use Rattle.cpu_core.specs.Window.{Spells, fault_of};
 
 use crate::code::{Code, Eight};
@@ -54,7 +53,7 @@ fn decode_near<L: Linear>(code: &Code<L>, regs: &Regs, insn: &mut Insn) -> Optio
     ensures { IfSome result (λ count. (flags : ℕ) →
         Fetches (by_pick L.pick) (whole regs.now flags) (L.seen code.now.lin) (Instruction insn.new count) (L.seen code.now.lin)) }
 {
-    match code.near(regs) {
+    match code.eight(regs) {
         Some(bytes) => decode_eight(bytes, is_wide(regs), insn),
         None => None,
     }
@@ -62,14 +61,18 @@ fn decode_near<L: Linear>(code: &Code<L>, regs: &Regs, insn: &mut Insn) -> Optio
 
 /// The instruction at CS:EIP, fetched byte by byte.
 #[inline(never)]
-fn decode_far<L: Linear>(code: &mut Code<L>, regs: &Regs, insn: &mut Insn) -> Result<u8, Fault>
-    requires quiet { IsQuiet (L.seen code.old.lin) }
+pub(crate) fn decode_far<L: Linear>(
+    code: &mut Code<L>,
+    regs: &Regs,
+    insn: &mut Insn,
+) -> Result<u8, Fault>
     ensures found { IfOk result (λ count. (flags : ℕ) →
         Fetches (by_pick L.pick) (whole regs.now flags) (L.seen code.old.lin) (Instruction insn.new count) (L.seen code.new.lin)) }
     ensures refused { IfErr result (λ fault. (flags : ℕ) →
         Fetches (by_pick L.pick) (whole regs.now flags) (L.seen code.old.lin) (Refused fault) (L.seen code.new.lin)) }
     ensures keeps { Keeps (L.seen code.old.lin) (L.seen code.new.lin) }
-    ensures quiet { IsQuiet (L.seen code.new.lin) }
+    ensures held { (L.seen code.new.lin).held ≡ (L.seen code.old.lin).held }
+    ensures served { (L.seen code.new.lin).served ≡ (L.seen code.old.lin).served }
 {
     code.start(regs);
     match decode_into(code, is_wide(regs), insn) {
@@ -87,13 +90,13 @@ pub(crate) fn decode<L: Linear>(
     regs: &Regs,
     insn: &mut Insn,
 ) -> Result<u8, Fault>
-    requires quiet { IsQuiet (L.seen code.old.lin) }
     ensures found { IfOk result (λ count. (flags : ℕ) →
         Fetches (by_pick L.pick) (whole regs.now flags) (L.seen code.old.lin) (Instruction insn.new count) (L.seen code.new.lin)) }
     ensures refused { IfErr result (λ fault. (flags : ℕ) →
         Fetches (by_pick L.pick) (whole regs.now flags) (L.seen code.old.lin) (Refused fault) (L.seen code.new.lin)) }
     ensures keeps { Keeps (L.seen code.old.lin) (L.seen code.new.lin) }
-    ensures quiet { IsQuiet (L.seen code.new.lin) }
+    ensures held { (L.seen code.new.lin).held ≡ (L.seen code.old.lin).held }
+    ensures served { (L.seen code.new.lin).served ≡ (L.seen code.old.lin).served }
 {
     if let Some(count) = decode_near(code, regs, insn) {
         return Ok(count);

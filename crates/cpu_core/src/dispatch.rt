@@ -10,7 +10,7 @@ ghost use Rattle.mdl_effect.specs.SystemEffects.{runs_system};
 ghost use Rattle.mem_iface.specs.Rules.{rules_of};
 ghost use Rattle.operands.specs.Whole.{whole};
 ghost use Rattle.cpu_core.specs.Families.{is_port_string};
-ghost use Rattle.cpu_core.specs.Plain.{IsReady};
+ghost use Rattle.cpu_core.specs.Plain.{IsSettled};
 ghost use Rattle.cpu_core.specs.Ran.{marked, Runs};
 
 use exec_data::runs_data;
@@ -65,7 +65,7 @@ fn run_data<L: Linear, P: Ports>(
 ) -> Result<Ran, Fault>
     requires spelt { (bytes : List ℕ) × (big : Bool) × Spelt bytes big insn.now }
     requires runs { runs_data insn.now ≡ true }
-    requires ready { IsReady (whole regs.old flags.old) (L.seen lin.old) }
+    requires ready { IsSettled (whole regs.old flags.old) (L.seen lin.old) }
     ensures { Runs (rules_of P.Ports) L.pick insn.now (whole regs.old flags.old) back (L.seen lin.old) ports.now result (whole regs.new flags.new) (L.seen lin.new) ports.now }
 {
     marked(exec_data::run(regs, flags, lin, insn, back), true)
@@ -83,7 +83,7 @@ fn run_flow<L: Linear, P: Ports>(
 ) -> Result<Ran, Fault>
     requires spelt { (bytes : List ℕ) × (big : Bool) × Spelt bytes big insn.now }
     requires runs { runs_flow insn.now ≡ true }
-    requires ready { IsReady (whole regs.old flags.old) (L.seen lin.old) }
+    requires ready { IsSettled (whole regs.old flags.old) (L.seen lin.old) }
     ensures { Runs (rules_of P.Ports) L.pick insn.now (whole regs.old flags.old) back (L.seen lin.old) ports.now result (whole regs.new flags.new) (L.seen lin.new) ports.now }
 {
     marked(exec_flow::run(regs, flags, lin, insn, back), true)
@@ -101,7 +101,7 @@ fn run_string<L: Linear, P: Ports>(
 ) -> Result<Ran, Fault>
     requires spelt { (bytes : List ℕ) × (big : Bool) × Spelt bytes big insn.now }
     requires runs { runs_string insn.now.op ≡ true }
-    requires ready { IsReady (whole regs.old flags.old) (L.seen lin.old) }
+    requires ready { IsSettled (whole regs.old flags.old) (L.seen lin.old) }
     ensures { Runs (rules_of P.Ports) L.pick insn.now (whole regs.old flags.old) back (L.seen lin.old) ports.old result (whole regs.new flags.new) (L.seen lin.new) ports.new }
 {
     let answer = string_ops::run(regs, flags, lin, ports, insn);
@@ -120,7 +120,7 @@ fn run_far<L: Linear, P: Ports>(
 ) -> Result<Ran, Fault>
     requires spelt { (bytes : List ℕ) × (big : Bool) × Spelt bytes big insn.now }
     requires runs { runs_far insn.now ≡ true }
-    requires ready { IsReady (whole regs.old flags.old) (L.seen lin.old) }
+    requires ready { IsSettled (whole regs.old flags.old) (L.seen lin.old) }
     ensures { Runs (rules_of P.Ports) L.pick insn.now (whole regs.old flags.old) back (L.seen lin.old) ports.now result (whole regs.new flags.new) (L.seen lin.new) ports.now }
 {
     regs.eflags = flags.pack(regs.eflags);
@@ -141,7 +141,7 @@ fn run_system<L: Linear, P: Ports>(
 ) -> Result<Ran, Fault>
     requires spelt { (bytes : List ℕ) × (big : Bool) × Spelt bytes big insn.now }
     requires runs { runs_system insn.now ≡ true }
-    requires ready { IsReady (whole regs.old flags.old) (L.seen lin.old) }
+    requires ready { IsSettled (whole regs.old flags.old) (L.seen lin.old) }
     ensures { Runs (rules_of P.Ports) L.pick insn.now (whole regs.old flags.old) back (L.seen lin.old) ports.old result (whole regs.new flags.new) (L.seen lin.new) ports.new }
 {
     regs.eflags = flags.pack(regs.eflags);
@@ -161,7 +161,7 @@ pub(crate) fn run<L: Linear, P: Ports>(
     back: u32,
 ) -> Result<Ran, Fault>
     requires spelt { (bytes : List ℕ) × (big : Bool) × Spelt bytes big insn.now }
-    requires ready { IsReady (whole regs.old flags.old) (L.seen lin.old) }
+    requires ready { IsSettled (whole regs.old flags.old) (L.seen lin.old) }
     ensures { Runs (rules_of P.Ports) L.pick insn.now (whole regs.old flags.old) back (L.seen lin.old) ports.old result (whole regs.new flags.new) (L.seen lin.new) ports.new }
 {
     if runs_data(insn) {

@@ -8,12 +8,12 @@ ghost use Rattle.mdl_state.specs.State.{Mem};
 ghost use Rattle.mdl_cpu.specs.SystemFlags.{TF};
 ghost use Rattle.mdl_state.specs.Bytes.{bit};
 ghost use Rattle.mem_iface.specs.Rules.{rules_of};
-ghost use Rattle.mdl_step.specs.Step.{is_covered, keeps_resume, landed, resumed, masks, with_control, remapped};
+ghost use Rattle.mdl_step.specs.Step.{keeps_resume, landed, resumed, masks, with_control, remapped};
 ghost use Rattle.operands.specs.Whole.{whole};
 ghost use Rattle.cpu_core.specs.Executing.{Passes, Faults};
-ghost use Rattle.cpu_core.specs.Plain.{IsReady};
+ghost use Rattle.cpu_core.specs.Plain.{IsSettled};
 
-use crate::boundary::has;
+use crate::boundary::{RESUME, has};
 use crate::dispatch::{Ran, run};
 use lazy_flags::Flags;
 use mdl_insn::{Insn, Op, Operand};
@@ -24,21 +24,8 @@ use mem_iface::{Linear, Ports};
 /// The number of PG in CR0.
 const PAGING: u8 = 31;
 
-/// The numbers of TF and RF in EFLAGS.
+/// The number of TF in EFLAGS.
 const TRAP: u8 = 8;
-
-const RESUME: u8 = 16;
-
-/// L0 to G3 of DR7 lie below this bit.
-const BREAKPOINTS: u32 = 0x100;
-
-/// No breakpoint is enabled.
-#[inline(always)]
-pub(crate) fn is_covered(regs: &Regs) -> bool
-    ensures { (flags : ℕ) → result ≡ is_covered (whole regs.now flags) }
-{
-    regs.dr7 % BREAKPOINTS == 0
-}
 
 /// Whether TF asks for a trap behind the next instruction.
 #[tactic(auto, using(crate::proofs::Modes::modes))]
@@ -94,13 +81,13 @@ pub(crate) fn execute<L: Linear, P: Ports>(
     back: u32,
 ) -> Result<Ran, Fault>
     requires spelt { (bytes : List ℕ) × (big : Bool) × Spelt bytes big insn.now }
-    requires ready { IsReady (whole regs.old flags.old) (L.seen lin.old) }
+    requires ready { IsSettled (whole regs.old flags.old) (L.seen lin.old) }
     ensures passes { IfOk result (λ ran. Passes (rules_of P.Ports) L.pick insn.now (whole regs.old flags.old) back (L.seen lin.old) ports.old
         (whole regs.new flags.new) ran.next (L.seen lin.new) ports.new) }
     ensures alone { IfOk result (λ ran. OnTrue ran.alone (ports.new ≡ ports.old)) }
     ensures faults { IfErr result (λ fault. Faults L.pick insn.now (whole regs.old flags.old) back (L.seen lin.old) fault (whole regs.new flags.new) (L.seen lin.new)) }
     ensures board { OnErr result (ports.new ≡ ports.old) }
-    ensures ready { IsReady (whole regs.new flags.new) (L.seen lin.new) }
+    ensures ready { IsSettled (whole regs.new flags.new) (L.seen lin.new) }
     ensures a20 { (L.seen lin.new).physical.a20 ≡ (L.seen lin.old).physical.a20 }
 {
     match run(regs, flags, lin, ports, insn, back) {

@@ -1,7 +1,7 @@
-//! The processor over any memory and any ports: a step in every mode, where no breakpoint is enabled.
+//! The processor over any memory and any ports: a step in every mode.
 //!
-//! The one contract used above: `Cpu::step` makes a step of the written machine for some choice, or
-//! says that the next is not built. Read `mdl_step/specs/Step.antt` first, then `specs/Plain.antt`.
+//! The one contract used above: `Cpu::step` makes a step of the written machine for some choice. Read
+//! `mdl_step/specs/Step.antt` first, then `specs/Plain.antt`.
 #![tactic(auto)]
 
 mod boundary;

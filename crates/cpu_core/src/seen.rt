@@ -3,6 +3,7 @@
 ghost use Rattle.std.specs.Prelude.{◌≡◌};
 ghost use Rattle.std.specs.Borrow.{Lends, sem};
 ghost use Rattle.mdl_state.specs.Machine.{Machine};
+ghost use Rattle.mdl_state.specs.Watches.{unwatched};
 ghost use Rattle.cpu_core.specs.contracts.cpu.Cpu.{the_row};
 
 use crate::cpu::Cpu;
@@ -40,11 +41,11 @@ impl<L: Linear, P: Ports> Cpu<L, P> {
         self.steps
     }
 
-    /// The memory.
+    /// The memory. What it looks for itself is not seen.
     pub fn lin(&self) -> &L
-        ensures { L.seen result.now ≡ self.now.state.mem }
+        ensures { unwatched (L.seen result.now) ≡ self.now.state.mem }
     {
-        &self.code.lin
+        &self.code.inside.lin
     }
 
     /// The ports.

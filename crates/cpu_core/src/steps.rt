@@ -1,38 +1,40 @@
 //! Steps, and passing over those in which nothing happens. Manual, chapters 9 and 10.
 
-ghost use Rattle.std.specs.Prelude.{◌≡◌, ◌<◌, ◌+◌, ◌-◌, ◌^◌, true, false};
+ghost use Rattle.std.specs.Prelude.{◌≡◌, ◌<◌, ◌+◌, ◌-◌, ◌^◌, [], true, false};
 ghost use Rattle.std.specs.Bool.{OnTrue, OnFalse};
 ghost use Rattle.mdl_state.specs.Bytes.{bit};
 ghost use Rattle.mdl_state.specs.Choices.{Meets};
 ghost use Rattle.mdl_state.specs.Serving.{Policy};
+ghost use Rattle.mdl_cpu.specs.Breakpoints.{data_breakpoints};
 ghost use Rattle.mdl_cpu.specs.SystemFlags.{TF};
 ghost use Rattle.mem_iface.specs.Rules.{rules_of};
 ghost use Rattle.mdl_step.specs.Boundary as rows;
-ghost use Rattle.mdl_step.specs.Boundary.{boundary_rows};
 ghost use Rattle.mdl_step.specs.RunLaws.{SomeStep};
-ghost use Rattle.mdl_step.specs.Step.{IsUnbuilt, is_covered, row_of};
+ghost use Rattle.mdl_step.specs.Step.{row_of};
 ghost use Rattle.cpu_core.specs.Passing.{later};
 ghost use Rattle.cpu_core.specs.Rows.{told};
-ghost use Rattle.cpu_core.specs.Turns.{Turned};
+ghost use Rattle.cpu_core.specs.Turns.{Makes};
 
-use crate::boundary::{Row, Turn, boundary, is_execution, is_idle, lets_in, runs_on};
+use crate::boundary::{Row, boundary, hits_here, is_execution, is_idle, lets_in, runs_on};
 use crate::cpu::Cpu;
-use crate::execute::{is_covered, is_traced};
+use crate::execute::is_traced;
+use debug_regs::is_any_enabled;
 use mdl_state::Activity;
 use mem_iface::{Linear, Ports};
 
 impl<L: Linear, P: Ports> Cpu<L, P> {
-    /// Whether the next step executes an instruction, by one look at what could come before it.
+    /// Whether the next step executes an instruction with TF 0 and no breakpoint enabled, by one look at
+    /// what could come before it.
     #[inline(always)]
     fn is_usual(&self) -> bool
-        ensures covered { OnTrue result (is_covered self.now.state.core.regs ≡ true) }
+        ensures data { OnTrue result (data_breakpoints self.now.state.core.regs ≡ []) }
         ensures untraced { OnTrue result (bit self.now.state.core.regs.eflags TF ≡ false) }
         ensures executes { OnTrue result (row_of (rules_of P.Ports) self.now ≡ rows.Execute) }
     {
         if !runs_on(self.activity, &self.latches) {
             return false;
         }
-        if !is_covered(&self.regs) {
+        if is_any_enabled(&self.regs) {
             return false;
         }
         if is_traced(&self.regs) {
@@ -44,74 +46,55 @@ impl<L: Linear, P: Ports> Cpu<L, P> {
         true
     }
 
-    /// The row of the next step, where no breakpoint is enabled.
+    /// The row of the next step.
     #[inline(never)]
     fn row(&self) -> Row
-        ensures { told result ≡ boundary_rows self.now.state.core.activity (P.wants self.now.board) 0 self.now.state.core.regs self.now.state.core.latches }
+        ensures { told result ≡ row_of (rules_of P.Ports) self.now }
     {
         let wants = self.ports.wants_interrupt();
-        boundary(self.activity, wants, &self.regs, &self.latches)
+        let hits = hits_here(&self.regs);
+        boundary(self.activity, wants, hits, &self.regs, &self.latches)
     }
 
-    /// Makes the next step, unless it executes an instruction.
+    /// Makes the next step in every case.
     #[inline(never)]
-    fn divert(&mut self) -> Turn
+    fn divert(&mut self)
         requires steps { self.old.state.core.steps < 2 ^ 64 - 1 }
         requires a20 { P.gate self.old.board ≡ self.old.state.mem.physical.a20 }
-        ensures { Turned result (rules_of P.Ports) L.pick self.old self.new }
+        ensures { Makes (rules_of P.Ports) L.pick self.old self.new }
     {
         let next = self.row();
         if is_idle(next) {
             self.finish(false);
-            return Turn::Made;
-        }
-        if !is_covered(&self.regs) {
-            return Turn::Unbuilt;
+            return;
         }
         if is_execution(next) {
-            return Turn::Executes(is_traced(&self.regs));
+            let wrote = self.execute_watched();
+            self.finish(wrote);
+            return;
         }
         self.take(next);
         self.finish(false);
-        Turn::Made
-    }
-
-    /// The same, with the usual case in line.
-    #[inline(always)]
-    fn turn(&mut self) -> Turn
-        requires steps { self.old.state.core.steps < 2 ^ 64 - 1 }
-        requires a20 { P.gate self.old.board ≡ self.old.state.mem.physical.a20 }
-        ensures { Turned result (rules_of P.Ports) L.pick self.old self.new }
-    {
-        if self.is_usual() {
-            return Turn::Executes(false);
-        }
-        self.divert()
     }
 
     /// Makes a step of the written machine, for some choice whose items meet each policy that those of
-    /// the memory meet. Answers false where the next step is not built, and then changes nothing.
+    /// the memory meet.
     ///
     /// The line A20 of the memory is that of the ports, before it and behind it.
     #[inline(always)]
-    pub fn step(&mut self) -> bool
+    pub fn step(&mut self)
         requires steps { self.old.state.core.steps < 2 ^ 64 - 1 }
         requires a20 { P.gate self.old.board ≡ self.old.state.mem.physical.a20 }
-        ensures made { OnTrue result ((policy : Policy) → Meets L.pick policy → SomeStep (rules_of P.Ports) policy self.old self.new) }
-        ensures count { OnTrue result (self.new.state.core.steps ≡ self.old.state.core.steps + 1) }
-        ensures unbuilt { OnFalse result (IsUnbuilt (rules_of P.Ports) self.old) }
-        ensures unchanged { OnFalse result (self.new ≡ self.old) }
+        ensures made { (policy : Policy) → Meets L.pick policy → SomeStep (rules_of P.Ports) policy self.old self.new }
+        ensures count { self.new.state.core.steps ≡ self.old.state.core.steps + 1 }
         ensures a20 { P.gate self.new.board ≡ self.new.state.mem.physical.a20 }
     {
-        match self.turn() {
-            Turn::Executes(traced) => {
-                let wrote = self.execute(traced);
-                self.finish(wrote);
-                true
-            }
-            Turn::Made => true,
-            Turn::Unbuilt => false,
+        if self.is_usual() {
+            let wrote = self.execute();
+            self.finish(wrote);
+            return;
         }
+        self.divert();
     }
 
     /// Passes over so many steps at once, where nothing happens in the next one, and so in none of them

@@ -108,7 +108,7 @@ fn asking(wanted: bool) -> Lines {
 }
 
 /// Makes so many steps. An NMI comes before those of these numbers.
-fn run(cpu: &mut Cpu<Tlb, Lines>, steps: u32, nmis: [u32; 2]) -> bool
+fn run(cpu: &mut Cpu<Tlb, Lines>, steps: u32, nmis: [u32; 2])
     requires first { cpu.old.state.core.steps ≡ 0 }
     requires a20 { cpu.old.state.mem.physical.a20 ≡ true }
 {
@@ -116,11 +116,8 @@ fn run(cpu: &mut Cpu<Tlb, Lines>, steps: u32, nmis: [u32; 2]) -> bool
         if step == nmis[0] || step == nmis[1] {
             cpu.nmi();
         }
-        if !cpu.step() {
-            return false;
-        }
+        cpu.step();
     }
-    true
 }
 
 /// No step has this number.
@@ -163,7 +160,7 @@ fn a_step_takes_the_first_row_that_holds(rt: HostRuntime) -> Result<(), Fail> {
         (0x80E6, false, [NEVER, NEVER], 2, 0xFFF0, 0, Activity::Running, false),
     ] {
         let mut cpu = Cpu::new(memory(rt.alloc(), code)?, asking(wanted));
-        assert!(rt; run(&mut cpu, steps, nmis));
+        run(&mut cpu, steps, nmis);
         let regs = cpu.regs();
         assert_eq!(rt; (regs.eip, regs.gpr[4], cpu.activity()), (eip, sp, activity));
         assert_eq!(rt; cpu.ports().wanted, asks);
@@ -226,7 +223,7 @@ fn a_halted_processor_takes_the_nmi_that_waits(rt: HostRuntime) -> Result<(), Fa
         Activity::Halted,
         latches,
     );
-    assert!(rt; cpu.step());
+    cpu.step();
     assert_eq!(rt;
         (cpu.regs().eip, cpu.activity()),
         (0x2010, Activity::Running)
@@ -323,7 +320,7 @@ fn a_page_fault_leaves_nothing_of_its_instruction(rt: HostRuntime) -> Result<(),
         (0x3FFE_0589, 0x1800, 0x4000, 0x17F0),
     ] {
         let mut cpu = Cpu::start_at(paged(rt.alloc(), code)?, asking(false), flat(esp), Activity::Running, latches);
-        assert!(rt; cpu.step());
+        cpu.step();
         let regs = cpu.regs();
         assert_eq!(rt; (regs.cr2, regs.gpr[4], regs.eip), (address, top, 0x1100));
         let memory = cpu.lin();
@@ -333,6 +330,57 @@ fn a_page_fault_leaves_nothing_of_its_instruction(rt: HostRuntime) -> Result<(),
         }
         // What was there before, and the entry of page 3, which was accessed and written.
         assert_eq!(rt; (word(memory, 0x3FFC), word(memory, 0x600C)), (0, 0x3063));
+    }
+    Ok(())
+}
+
+/// Registers of real mode, at 0:1000h, with RF 1 or 0, and the first breakpoint.
+#[tactic(auto, using(crate::proofs::Arriving::real_sound, crate::proofs::Arriving::resumed_sound))]
+fn breaking(resume: bool, at: u32, dr7: u32) -> Regs
+    ensures sound { IsSound result }
+    ensures control { result.cr0 ≡ 0 }
+    ensures directory { result.cr3 ≡ 0 }
+{
+    let dr = [at, 0, 0, 0];
+    if resume {
+        return Regs {
+            eflags: 0x1_0002,
+            dr,
+            dr7,
+            ..regs()
+        };
+    }
+    Regs { dr, dr7, ..regs() }
+}
+
+#[rattlefmt::skip]
+#[tactic(auto, using(crate::proofs::Arriving::unpaged_ready))]
+#[test]
+fn a_breakpoint_comes_before_its_instruction_or_behind_its_access(rt: HostRuntime) -> Result<(), Fail> {
+    let latches = Latches { nmi: false, masked: false, hold: 0, pending: 0 };
+    // The code, its first byte lowest, RF, DR0, DR7, and the steps; then EIP, SP and DR6. The handler of vector 1 is at
+    // 0:0, and the word at its SP is the EIP to which it returns.
+    for (code, resume, at, dr7, steps, eip, sp, dr6) in [
+        // G0, on execution of the NOP: a fault, unless RF is 1.
+        (0x90, false, 0x1000, 0x2, 1, 0, 0xFFFA, 1),
+        (0x90, true, 0x1000, 0x2, 1, 0x1001, 0, 0),
+        // G0, on writes of the word FFFEh: PUSH AX meets it, and the trap comes behind it.
+        (0x50, false, 0xFFFE, 0x5_0002, 1, 0x1001, 0xFFFE, 0),
+        (0x50, false, 0xFFFE, 0x5_0002, 2, 0, 0xFFF8, 1),
+        // POP AX reads the word 0. That counts where R/W is 3, and does not where it is 1.
+        (0x9058, false, 0, 0x7_0002, 2, 0, 0xFFFC, 1),
+        (0x9058, false, 0, 0x5_0002, 2, 0x1002, 2, 0),
+        // DIV [3000h] reads a byte of 0, which is watched, and faults: no trap comes behind the NOP of its handler.
+        (0x3000_36F6, false, 0x3000, 0x3_0002, 1, 0x2000, 0xFFFA, 0),
+        (0x3000_36F6, false, 0x3000, 0x3_0002, 2, 0x2001, 0xFFFA, 0),
+    ] {
+        let mut cpu = Cpu::start_at(memory(rt.alloc(), code)?, asking(false), breaking(resume, at, dr7), Activity::Running, latches);
+        run(&mut cpu, steps, [NEVER, NEVER]);
+        let regs = cpu.regs();
+        assert_eq!(rt; (regs.eip, regs.gpr[4], regs.dr6), (eip, sp, dr6));
+        if dr6 == 1 {
+            assert_eq!(rt; word(cpu.lin(), sp) % 0x1_0000, if at == 0x1000 { 0x1000 } else { 0x1001 });
+        }
     }
     Ok(())
 }

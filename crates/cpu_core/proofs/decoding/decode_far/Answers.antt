@@ -5,9 +5,8 @@ use Rattle.mdl_state.specs.Accesses.{Keeps}
 use Rattle.mdl_state.specs.Serving.{by_pick}
 use Rattle.mdl_step.specs.Fetching.{Instruction, Refused, Fetches}
 use Rattle.operands.specs.Whole.{whole}
-use Rattle.cpu_core.specs.Plain.{IsQuiet}
 use Rattle.cpu_core.specs.Window.{fault_of}
-use Rattle.cpu_core.proofs.Windows.{takes_stays, refuses_stays, stays_quiet}
+use Rattle.cpu_core.proofs.Windows.{takes_stays, refuses_stays}
 use Rattle.cpu_core.proofs.Fetched.{started, whole_wide, takes, refuses}
 use Rattle.cpu_core.proofs.decoding.decode_far.Goals as goal
 
@@ -24,11 +23,17 @@ returns-in-Ok-clause-keeps g c =
     (takes_stays g.L.Linear.pick (λ s. record { base = s.base; limit = s.limit; who = s.who; offset = s.offset; mem = g.L.Linear.seen s.lin }) c.is_wide.result c.start.new.self c.decode_into.new.fetch
     c.decode_into.new.insn c.in-Ok.count c.in-Ok.ensures.ok).keeps
 
-pub returns-in-Ok-clause-quiet : goal.returns-in-Ok-clause-quiet
-returns-in-Ok-clause-quiet g c =
-    stays_quiet (g.L.Linear.seen c.start.new.self.lin) (g.L.Linear.seen c.decode_into.new.fetch.lin)
+pub returns-in-Ok-clause-held : goal.returns-in-Ok-clause-held
+returns-in-Ok-clause-held g c =
     (takes_stays g.L.Linear.pick (λ s. record { base = s.base; limit = s.limit; who = s.who; offset = s.offset; mem = g.L.Linear.seen s.lin }) c.is_wide.result c.start.new.self c.decode_into.new.fetch
-    c.decode_into.new.insn c.in-Ok.count c.in-Ok.ensures.ok) (subst IsQuiet (sym (ap g.L.Linear.seen c.start.ensures.memory)) c.requires.quiet)
+    c.decode_into.new.insn c.in-Ok.count c.in-Ok.ensures.ok).held
+    ∙ ap (λ (m : Mem). m.held) (ap g.L.Linear.seen c.start.ensures.memory)
+
+pub returns-in-Ok-clause-served : goal.returns-in-Ok-clause-served
+returns-in-Ok-clause-served g c =
+    (takes_stays g.L.Linear.pick (λ s. record { base = s.base; limit = s.limit; who = s.who; offset = s.offset; mem = g.L.Linear.seen s.lin }) c.is_wide.result c.start.new.self c.decode_into.new.fetch
+    c.decode_into.new.insn c.in-Ok.count c.in-Ok.ensures.ok).watch.served
+    ∙ ap (λ (m : Mem). m.served) (ap g.L.Linear.seen c.start.ensures.memory)
 
 pub returns-in-Err-clause-refused : goal.returns-in-Err-clause-refused
 returns-in-Err-clause-refused g c = λ flags.
@@ -44,8 +49,14 @@ returns-in-Err-clause-keeps g c =
     (refuses_stays g.L.Linear.pick (λ s. record { base = s.base; limit = s.limit; who = s.who; offset = s.offset; mem = g.L.Linear.seen s.lin }) c.is_wide.result c.start.new.self c.decode_into.new.fetch
     c.in-Err.cause c.in-Err.ensures.err).keeps
 
-pub returns-in-Err-clause-quiet : goal.returns-in-Err-clause-quiet
-returns-in-Err-clause-quiet g c =
-    stays_quiet (g.L.Linear.seen c.start.new.self.lin) (g.L.Linear.seen c.decode_into.new.fetch.lin)
+pub returns-in-Err-clause-held : goal.returns-in-Err-clause-held
+returns-in-Err-clause-held g c =
     (refuses_stays g.L.Linear.pick (λ s. record { base = s.base; limit = s.limit; who = s.who; offset = s.offset; mem = g.L.Linear.seen s.lin }) c.is_wide.result c.start.new.self c.decode_into.new.fetch
-    c.in-Err.cause c.in-Err.ensures.err) (subst IsQuiet (sym (ap g.L.Linear.seen c.start.ensures.memory)) c.requires.quiet)
+    c.in-Err.cause c.in-Err.ensures.err).held
+    ∙ ap (λ (m : Mem). m.held) (ap g.L.Linear.seen c.start.ensures.memory)
+
+pub returns-in-Err-clause-served : goal.returns-in-Err-clause-served
+returns-in-Err-clause-served g c =
+    (refuses_stays g.L.Linear.pick (λ s. record { base = s.base; limit = s.limit; who = s.who; offset = s.offset; mem = g.L.Linear.seen s.lin }) c.is_wide.result c.start.new.self c.decode_into.new.fetch
+    c.in-Err.cause c.in-Err.ensures.err).watch.served
+    ∙ ap (λ (m : Mem). m.served) (ap g.L.Linear.seen c.start.ensures.memory)

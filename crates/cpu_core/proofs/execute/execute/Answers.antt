@@ -5,8 +5,7 @@ use Rattle.mdl_cpu.specs.Switch.{left}
 use Rattle.mdl_effect.specs.Operands.{After}
 use Rattle.mdl_step.specs.Step.{remapped}
 use Rattle.operands.specs.Whole.{whole}
-use Rattle.cpu_core.specs.Plain.{IsQuiet}
-use Rattle.cpu_core.proofs.Settled.{run_quiet, settled_ready}
+use Rattle.cpu_core.proofs.Settled.{run_settled}
 use Rattle.cpu_core.proofs.execute.execute.Goals as goal
 
 pub returns-in-Ok-clause-passes : goal.returns-in-Ok-clause-passes
@@ -24,7 +23,6 @@ returns-in-Ok-clause-passes g c =
       placed = g.L.Linear.seen c.commit.new.self;
       passed = done.ran ∙ ap (λ (k : Mem). left (Passed after) done.rest k) (sym c.commit.ensures.placed);
       moves = done.moves;
-      quiet = subst IsQuiet (sym c.commit.ensures.placed) (run_quiet g.L.Linear.pick c.args.insn.now old c.args.back done.given new.eflags m n (Ok c.in-Ok.ran) _ c.requires.ready.quiet done.ran);
       mapped = c.settle.ensures c.run.new.flags;
     }
 
@@ -36,7 +34,7 @@ returns-in-Ok-clause-ready g c =
     let insn = c.args.insn.now in
     let m = g.L.Linear.seen c.args.lin.now in
     let n = g.L.Linear.seen c.run.new.lin in
-    settled_ready g.L.Linear.pick insn old c.args.back done.given new.eflags new m n (Ok c.in-Ok.ran) (g.L.Linear.seen c.settle.new.lin) _ c.requires.ready.quiet done.ran done.sound done.tables
+    run_settled g.L.Linear.pick insn old c.args.back done.given new.eflags new m n (Ok c.in-Ok.ran) (g.L.Linear.seen c.settle.new.lin) _ c.requires.ready.still done.ran done.sound done.tables
     (c.settle.ensures c.run.new.flags ∙ ap (remapped insn.op insn.a new) c.commit.ensures.placed)
 
 pub returns-in-Err-clause-ready : goal.returns-in-Err-clause-ready
@@ -46,4 +44,4 @@ returns-in-Err-clause-ready g c =
     let new = whole c.run.new.regs c.run.new.flags in
     let m = g.L.Linear.seen c.args.lin.now in
     let n = g.L.Linear.seen c.run.new.lin in
-    settled_ready g.L.Linear.pick c.args.insn.now old c.args.back done.given new.eflags new m n (Err c.in-Err.fault) (g.L.Linear.seen c.discard.new.self) _ c.requires.ready.quiet done.ran done.sound done.tables c.discard.ensures.dropped
+    run_settled g.L.Linear.pick c.args.insn.now old c.args.back done.given new.eflags new m n (Err c.in-Err.fault) (g.L.Linear.seen c.discard.new.self) _ c.requires.ready.still done.ran done.sound done.tables c.discard.ensures.dropped

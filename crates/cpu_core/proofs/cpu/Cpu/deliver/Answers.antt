@@ -1,6 +1,7 @@
 use Rattle.std.proofs.Common.{◌≡◌, sym, ap, subst, ◌∙◌}
 use Rattle.mdl_state.specs.declared.Regs.{Regs}
 use Rattle.mdl_state.specs.State.{Mem, Core}
+use Rattle.mdl_state.specs.Watches.{watching}
 use Rattle.mdl_state.specs.Machine.{Machine}
 use Rattle.mdl_state.specs.Serving.{Outcome, Passed, by_pick, on}
 use Rattle.mdl_cpu.specs.Delivery.{Arrival}
@@ -17,7 +18,7 @@ use Rattle.cpu_core.proofs.cpu.Cpu.deliver.Goals as goal
 pub deliver-delivered-requires : goal.deliver-delivered-requires
 deliver-delivered-requires g c =
     let inside = c.self.inside in
-    let m = g.L.Linear.seen inside.code.lin in
+    let m = watching (g.L.Linear.seen inside.code.inside.lin) inside.code.watch.items inside.code.hits in
     let packed = record inside.regs { eflags = c.pack-self-inside.result } in
     let before : packed ≡ whole inside.regs inside.flags = ap (λ e. record inside.regs { eflags = e }) c.pack-self-inside.ensures in
     let ready = subst (λ (r : Regs). IsReady r m) (sym before) c.self.invariant in
@@ -27,10 +28,10 @@ pub invariant_of-self : goal.invariant_of-self
 invariant_of-self g c =
     let inside = c.self.inside in
     let packed = record inside.regs { eflags = c.pack-self-inside.result } in
-    let m = g.L.Linear.seen inside.code.lin in
+    let m = watching (g.L.Linear.seen inside.code.inside.lin) inside.code.watch.items inside.code.hits in
     let now = c.deliver-delivered in
     let new = now.new.regs in
-    let n = g.L.Linear.seen now.new.lin in
+    let n = watching (g.L.Linear.seen now.new.lin.inside.lin) now.new.lin.watch.items now.new.lin.hits in
     let before : packed ≡ whole inside.regs inside.flags = ap (λ e. record inside.regs { eflags = e }) c.pack-self-inside.ensures in
     let ready = subst (λ (r : Regs). IsReady r m) (sym before) c.self.invariant in
     subst (λ (r : Regs). IsReady r n) (sym (ap (whole new) c.unpack-self-inside.ensures ∙ whole_unpacked new))
@@ -39,11 +40,11 @@ invariant_of-self g c =
 pub returns-clause-delivered : goal.returns-clause-delivered
 returns-clause-delivered g c =
     let inside = c.self.inside in
-    let m : Machine _ = record { state = record { core = record { regs = whole inside.regs inside.flags; activity = inside.activity; latches = inside.latches; steps = inside.steps }; mem = g.L.Linear.seen inside.code.lin }; board = inside.ports } in
+    let m : Machine _ = record { state = record { core = record { regs = whole inside.regs inside.flags; activity = inside.activity; latches = inside.latches; steps = inside.steps }; mem = watching (g.L.Linear.seen inside.code.inside.lin) inside.code.watch.items inside.code.hits }; board = inside.ports } in
     let packed = record inside.regs { eflags = c.pack-self-inside.result } in
     let now = c.deliver-delivered in
     let new = now.new.regs in
-    let n = g.L.Linear.seen now.new.lin in
+    let n = watching (g.L.Linear.seen now.new.lin.inside.lin) now.new.lin.watch.items now.new.lin.hits in
     let before : packed ≡ m.state.core.regs = ap (λ e. record inside.regs { eflags = e }) c.pack-self-inside.ensures in
     let left : Core = record m.state.core { regs = whole new c.unpack-self-inside.result; activity = c.activity_at-self-inside.result; latches = record inside.latches { pending = c.pending_at-self-inside.result } } in
     subst (λ (x : Machine _). delivered (by_pick g.L.Linear.pick) c.args.cause x.state.core x.state.mem ≡ (Passed left, n)) c.self.view_is

@@ -1,7 +1,7 @@
 use Rattle.std.proofs.Common.{◌+◌, ◌%◌, ◌^◌, refl, ap, arith}
 use Rattle.mdl_state.specs.declared.Hidden.{Hidden}
 use Rattle.cpu_core.proofs.Eights.{eight_at}
-use Rattle.cpu_core.proofs.code.Code.near.Goals as goal
+use Rattle.cpu_core.proofs.code.Code.eight.Goals as goal
 
 pub returns-in-Some : goal.returns-in-Some
 returns-in-Some g c =
