@@ -11,7 +11,8 @@ use mem_iface::Linear;
 
 /// A memory, the breakpoints that are looked for, and the bits of DR6 of those that were met.
 ///
-/// Instructions run over it; fetches and deliveries run over the memory within.
+/// Instructions run over it where there are breakpoints to look for, and deliveries with none; fetches
+/// and other instructions run over the memory within.
 #[derive(Drop)]
 pub struct Watched<L> {
     pub inside: L,
