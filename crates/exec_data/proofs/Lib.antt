@@ -7,3 +7,4 @@ pub mod Loads
 pub mod Readings
 pub mod MoveLaws
 pub mod Memories
+pub mod Numbers

@@ -1,10 +1,14 @@
 -- Operands that are only read, and the number in the place of such an operand. Manual, chapter 17.
-use Rattle.std.specs.Prelude.{ℕ, Bool, true, false}
+use Rattle.std.specs.Prelude.{ℕ, Bool, true, false, if◌then◌else◌}
+use Rattle.mdl_state.specs.declared.Regs.{Regs}
+use Rattle.mdl_state.specs.Attempt.{Plan, Done}
 use Rattle.mdl_insn.specs.declared.instruction.Insn.{Insn}
+use Rattle.mdl_insn.specs.declared.instruction.Operand.{Operand}
 use Rattle.mdl_insn.specs.declared.instruction.Operand.TheVariants.{Imm}
 use Rattle.mdl_insn.specs.declared.mnemonics.Op.{Op}
 use Rattle.mdl_insn.specs.declared.mnemonics.Op.TheVariants as ops
-use Rattle.mdl_effect.specs.Operands.{size_of}
+use Rattle.mdl_effect.specs.Operands.{After, follow, is_plain, size_of, value_of, memory_read, with_flags, reading, writing, updating}
+use Rattle.mdl_effect.specs.Arithmetic.{flagged, binary}
 
 -- the mnemonics that read their second operand before anything else
 abbrev pub reads_second : Op → Bool
@@ -46,3 +50,23 @@ with_second insn value = record insn { b = Imm value (size_of insn.b) }
 abbrev pub is_move : Op → Bool
 is_move ops.Mov = true
 is_move _ = false
+
+-- the number of an operand that is read
+unfoldable pub number_plan : Regs → Operand → Plan ℕ
+number_plan r operand = if is_plain operand then Done (value_of r operand) else memory_read r operand
+
+-- what MOV does with the number of its source
+unfoldable pub moving : Insn → Regs → ℕ → Plan After
+moving insn r value = writing r insn.a value
+
+-- what ADD to XOR do with it
+unfoldable pub combining : Insn → Regs → ℕ → ℕ → Plan After
+combining insn r free b = updating r insn.a (λ a. flagged r free (binary insn.op insn.size a b r.eflags))
+
+-- what CMP and TEST do with it
+unfoldable pub comparing : Insn → Regs → ℕ → ℕ → Plan After
+comparing insn r free b = reading r insn.a (λ a. follow (with_flags r (binary insn.op insn.size a b r.eflags).status free))
+
+-- and with the number of both
+unfoldable pub compared : Insn → Regs → ℕ → ℕ → ℕ → Plan After
+compared insn r free b a = follow (with_flags r (binary insn.op insn.size a b r.eflags).status free)

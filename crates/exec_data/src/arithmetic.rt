@@ -1,29 +1,35 @@
 //! Sums, differences and logic.
 
-ghost use Rattle.std.specs.Prelude.{◌≡◌, ◌<◌, ℕ, OnErr};
+ghost use Rattle.std.specs.Prelude.{◌≡◌, ◌<◌, ◌||◌, ℕ, true, OnErr};
 ghost use Rattle.mdl_state.specs.Bytes.{bound_of};
 ghost use Rattle.mdl_state.specs.Serving.{by_pick};
 ghost use Rattle.mdl_state.specs.Accesses.{Keeps, HasRoom};
 ghost use Rattle.mdl_state.specs.Attempt.{tried};
+ghost use Rattle.mdl_cpu.specs.Addresses.{HasAddress};
 ghost use Rattle.mdl_num.specs.Flags.{flags_after};
 ghost use Rattle.mdl_num.specs.Sums.{logic_value, logic_status};
 ghost use Rattle.lazy_flags.specs.Keeper.{with_status, kept};
 ghost use Rattle.lazy_flags.specs.declared.operation.FlagOp.TheVariants.{Logic};
-ghost use Rattle.mdl_effect.specs.Operands.{follow, value_of};
+ghost use Rattle.mdl_effect.specs.Operands.{follow, is_plain, value_of};
+ghost use Rattle.mdl_effect.specs.Kinds.{is_place, is_value};
+ghost use Rattle.mdl_effect.specs.Forms.{IsOf};
 ghost use Rattle.mdl_effect.specs.Arithmetic.{binary, unary, binary_plan, compare_plan, unary_plan};
 ghost use Rattle.operands.specs.Whole.{whole, after, IsPlainOf, KeepsOther};
 ghost use Rattle.operands.specs.Memory.{IsMemoryOf};
 ghost use Rattle.exec_data.specs.Last.{last_of_two, last_of_one};
+ghost use Rattle.exec_data.specs.Reads.{combining, compared};
 
+use crate::reads::number;
 use alu_ops::{bitwise, difference, sum};
 use lazy_flags::{FlagOp, Flags};
-use mdl_insn::{Insn, Op};
+use mdl_insn::{Insn, Op, Operand};
 use mdl_num::{CF, LogicOp, bound};
 use mdl_state::{Fault, Regs, Size};
 use mem_iface::Linear;
 use operands::{open, set, value};
 
 /// AND, OR and XOR.
+#[inline(always)]
 #[tactic(auto, using(operands::proofs::Statuses::statuses, crate::proofs::Logic::bounds))]
 fn logic(op: LogicOp, a: u32, b: u32, size: Size, flags: &mut Flags) -> u32
     requires a { a < bound_of size }
@@ -40,6 +46,7 @@ fn logic(op: LogicOp, a: u32, b: u32, size: Size, flags: &mut Flags) -> u32
 }
 
 /// An operation on two operands: its value, with the flags that it leaves.
+#[inline(always)]
 #[tactic(auto, using(operands::proofs::Statuses::statuses))]
 fn binary(op: Op, size: Size, a: u32, b: u32, flags: &mut Flags) -> u32
     requires a { a < bound_of size }
@@ -77,6 +84,7 @@ fn binary(op: Op, size: Size, a: u32, b: u32, flags: &mut Flags) -> u32
 }
 
 /// An operation on one operand: its value, with the flags that it leaves.
+#[inline(always)]
 #[tactic(auto, using(operands::proofs::Statuses::statuses))]
 fn unary(op: Op, size: Size, a: u32, flags: &mut Flags) -> u32
     requires { a < bound_of size }
@@ -101,6 +109,141 @@ fn unary(op: Op, size: Size, a: u32, flags: &mut Flags) -> u32
         }
         Op::Not => (bound(size) - 1) as u32 - a,
         _ => a,
+    }
+}
+
+/// ADD to XOR in a register, with the number of the second operand.
+#[inline(always)]
+#[tactic(auto, unfolding(crate::specs::Reads::combining))]
+fn combine_number(regs: &mut Regs, flags: &mut Flags, insn: &Insn, b: u32)
+    requires a { IsPlainOf insn.now.size insn.now.a }
+    requires b { b < bound_of insn.now.size }
+    ensures plan { follow (whole regs.new flags.new)
+        ≡ combining insn.now (whole regs.old flags.old) (whole regs.new flags.new).eflags b }
+    ensures last { flags.new ≡ last_of_two insn.now.op insn.now.size (value_of (whole regs.old flags.old) insn.now.a) b flags.old }
+    ensures kept { KeepsOther regs.old regs.new }
+{
+    let a = value(regs, &insn.a, insn.size);
+    let value = binary(insn.op, insn.size, a, b, flags);
+    set(regs, &insn.a, insn.size, value);
+}
+
+/// ADD to XOR in a register.
+#[inline(always)]
+#[tactic(auto, using(mdl_state::specs::Rules::attempts, crate::proofs::Numbers::numbers))]
+fn combine_register<L: Linear>(
+    regs: &mut Regs,
+    flags: &mut Flags,
+    lin: &mut L,
+    insn: &Insn,
+) -> Result<(), Fault>
+    requires a { IsPlainOf insn.now.size insn.now.a }
+    requires value { is_value insn.now.b ≡ true }
+    requires b { IsOf insn.now.size insn.now.b }
+    requires address { HasAddress insn.now.b }
+    ensures run { (after result (whole regs.new flags.new), L.seen lin.new)
+        ≡ tried (by_pick L.pick) 0 (binary_plan insn.now (whole regs.old flags.old) (whole regs.new flags.new).eflags) (L.seen lin.old) }
+    ensures unchanged { OnErr result ((regs.new ≡ regs.old) × (flags.new ≡ flags.old)) }
+    ensures keeps { Keeps (L.seen lin.old) (L.seen lin.new) }
+{
+    let b = number(regs, lin, &insn.b, insn.size)?;
+    combine_number(regs, flags, insn, b);
+    Ok(())
+}
+
+/// ADD to XOR, by where the first operand is.
+#[inline(always)]
+#[tactic(auto, using(operands::proofs::OperandKinds::kinds))]
+pub(crate) fn combine_place<L: Linear>(
+    regs: &mut Regs,
+    flags: &mut Flags,
+    lin: &mut L,
+    insn: &Insn,
+) -> Result<(), Fault>
+    requires place { is_place insn.now.a ≡ true }
+    requires value { is_value insn.now.b ≡ true }
+    requires apart { (is_plain insn.now.a || is_plain insn.now.b) ≡ true }
+    requires a { IsOf insn.now.size insn.now.a }
+    requires b { IsOf insn.now.size insn.now.b }
+    requires address_a { HasAddress insn.now.a }
+    requires address_b { HasAddress insn.now.b }
+    requires room { HasRoom (L.seen lin.old) 4 }
+    ensures run { (after result (whole regs.new flags.new), L.seen lin.new)
+        ≡ tried (by_pick L.pick) 0 (binary_plan insn.now (whole regs.old flags.old) (whole regs.new flags.new).eflags) (L.seen lin.old) }
+    ensures unchanged { OnErr result ((regs.new ≡ regs.old) × (flags.new ≡ flags.old)) }
+    ensures keeps { Keeps (L.seen lin.old) (L.seen lin.new) }
+{
+    match insn.a {
+        Operand::Gpr(_, _) => combine_register(regs, flags, lin, insn),
+        Operand::At(_, _) => combine_memory(regs, flags, lin, insn),
+        _ => unreachable!(),
+    }
+}
+
+/// CMP and TEST, with the numbers of both operands.
+#[inline(always)]
+#[tactic(auto, unfolding(crate::specs::Reads::compared))]
+fn compare_numbers(flags: &mut Flags, insn: &Insn, a: u32, b: u32)
+    requires a { a < bound_of insn.now.size }
+    requires b { b < bound_of insn.now.size }
+    ensures plan { (r : Regs) → follow (whole r flags.new)
+        ≡ compared insn.now (whole r flags.old) (whole r flags.new).eflags b a }
+    ensures last { flags.new ≡ last_of_two insn.now.op insn.now.size a b flags.old }
+{
+    binary(insn.op, insn.size, a, b, flags);
+}
+
+/// CMP and TEST, of which no operand or one is memory.
+#[inline(always)]
+#[tactic(auto, using(mdl_state::specs::Rules::attempts, crate::proofs::Numbers::numbers))]
+pub(crate) fn compare_values<L: Linear>(
+    regs: &Regs,
+    flags: &mut Flags,
+    lin: &mut L,
+    insn: &Insn,
+) -> Result<(), Fault>
+    requires value_a { is_value insn.now.a ≡ true }
+    requires value_b { is_value insn.now.b ≡ true }
+    requires a { IsOf insn.now.size insn.now.a }
+    requires b { IsOf insn.now.size insn.now.b }
+    requires address_a { HasAddress insn.now.a }
+    requires address_b { HasAddress insn.now.b }
+    ensures run { (after result (whole regs.now flags.new), L.seen lin.new)
+        ≡ tried (by_pick L.pick) 0 (compare_plan insn.now (whole regs.now flags.old) (whole regs.now flags.new).eflags) (L.seen lin.old) }
+    ensures unchanged { OnErr result (flags.new ≡ flags.old) }
+    ensures keeps { Keeps (L.seen lin.old) (L.seen lin.new) }
+{
+    let b = number(regs, lin, &insn.b, insn.size)?;
+    let a = number(regs, lin, &insn.a, insn.size)?;
+    compare_numbers(flags, insn, a, b);
+    Ok(())
+}
+
+/// INC, DEC, NEG and NOT, by where the operand is.
+#[inline(always)]
+#[tactic(auto, using(operands::proofs::OperandKinds::kinds, mdl_state::specs::Rules::attempts))]
+pub(crate) fn change_place<L: Linear>(
+    regs: &mut Regs,
+    flags: &mut Flags,
+    lin: &mut L,
+    insn: &Insn,
+) -> Result<(), Fault>
+    requires place { is_place insn.now.a ≡ true }
+    requires a { IsOf insn.now.size insn.now.a }
+    requires address { HasAddress insn.now.a }
+    requires room { HasRoom (L.seen lin.old) 4 }
+    ensures run { (after result (whole regs.new flags.new), L.seen lin.new)
+        ≡ tried (by_pick L.pick) 0 (unary_plan insn.now (whole regs.old flags.old) (whole regs.new flags.new).eflags) (L.seen lin.old) }
+    ensures unchanged { OnErr result ((regs.new ≡ regs.old) × (flags.new ≡ flags.old)) }
+    ensures keeps { Keeps (L.seen lin.old) (L.seen lin.new) }
+{
+    match insn.a {
+        Operand::Gpr(_, _) => {
+            change(regs, flags, insn);
+            Ok(())
+        }
+        Operand::At(_, _) => change_memory(regs, flags, lin, insn),
+        _ => unreachable!(),
     }
 }
 
@@ -137,6 +280,7 @@ pub(crate) fn compare(regs: &Regs, flags: &mut Flags, insn: &Insn)
 }
 
 /// INC, DEC, NEG and NOT.
+#[inline(always)]
 #[tactic(auto, unfolding(mdl_effect::specs::Arithmetic::unary_plan))]
 pub(crate) fn change(regs: &mut Regs, flags: &mut Flags, insn: &Insn)
     requires { IsPlainOf insn.now.size insn.now.a }
@@ -151,6 +295,7 @@ pub(crate) fn change(regs: &mut Regs, flags: &mut Flags, insn: &Insn)
 }
 
 /// ADD, OR, ADC, SBB, AND, SUB and XOR in memory.
+#[inline(never)]
 #[tactic(auto, unfolding(mdl_effect::specs::Arithmetic::binary_plan))]
 pub(crate) fn combine_memory<L: Linear>(
     regs: &Regs,
@@ -175,6 +320,7 @@ pub(crate) fn combine_memory<L: Linear>(
 }
 
 /// INC, DEC, NEG and NOT in memory.
+#[inline(never)]
 #[tactic(auto, unfolding(mdl_effect::specs::Arithmetic::unary_plan))]
 pub(crate) fn change_memory<L: Linear>(
     regs: &Regs,

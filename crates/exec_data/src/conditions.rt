@@ -30,7 +30,7 @@ pub(crate) fn set_byte(regs: &mut Regs, flags: &Flags, insn: &Insn, number: u8)
     set(regs, &insn.a, Size::B1, condition(number, flags) as u32);
 }
 
-/// SETcc in memory.
+/// SETcc in a register or in memory.
 #[tactic(auto, unfolding(mdl_effect::specs::Conditions::set_plan))]
 pub(crate) fn set_memory<L: Linear>(
     regs: &mut Regs,

@@ -20,7 +20,7 @@ use crate::bit_strings::{bit_change_memory, bit_test_memory};
 use crate::bounds::check_bounds;
 use crate::conditions::set_memory;
 use crate::far_pointers::load_pointer;
-use crate::moves::{exchange_memory, move_memory};
+use crate::moves::{exchange_memory, move_value};
 use crate::plain::{is_data, is_move};
 use crate::reads::{run_first, run_second};
 use crate::segments::{move_from_segment, move_to_segment, pop_segment};
@@ -96,13 +96,13 @@ fn run_data<L: Linear>(
 }
 
 /// MOV of which the first operand is no segment register.
+#[inline(always)]
 #[tactic(auto, using(crate::proofs::MoveLaws::operands_of_moves))]
 fn move_out<L: Linear>(regs: &mut Regs, lin: &mut L, insn: &Insn) -> Result<Next, Fault>
     requires form { IsMove insn.now.a insn.now.b insn.now.size }
     requires a { is_segment insn.now.a ≡ false }
     requires special_a { is_special insn.now.a ≡ false }
     requires special_b { is_special insn.now.b ≡ false }
-    requires memory { (is_plain insn.now.a && is_plain insn.now.b) ≡ false }
     requires address_a { HasAddress insn.now.a }
     requires address_b { HasAddress insn.now.b }
     requires room { HasRoom (L.seen lin.old) 4 }
@@ -113,17 +113,17 @@ fn move_out<L: Linear>(regs: &mut Regs, lin: &mut L, insn: &Insn) -> Result<Next
 {
     match insn.b {
         Operand::Sreg(seg) => move_from_segment(regs, lin, insn, seg)?,
-        _ => move_memory(regs, lin, insn)?,
+        _ => move_value(regs, lin, insn)?,
     }
     Ok(Next::Follow)
 }
 
 /// MOV.
-fn run_move<L: Linear>(regs: &mut Regs, lin: &mut L, insn: &Insn) -> Result<Next, Fault>
+#[inline(always)]
+pub(crate) fn run_move<L: Linear>(regs: &mut Regs, lin: &mut L, insn: &Insn) -> Result<Next, Fault>
     requires form { IsMove insn.now.a insn.now.b insn.now.size }
     requires special_a { is_special insn.now.a ≡ false }
     requires special_b { is_special insn.now.b ≡ false }
-    requires memory { (is_plain insn.now.a && is_plain insn.now.b) ≡ false }
     requires address_a { HasAddress insn.now.a }
     requires address_b { HasAddress insn.now.b }
     requires room { HasRoom (L.seen lin.old) 4 }

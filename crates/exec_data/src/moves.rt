@@ -13,13 +13,13 @@ ghost use Rattle.mdl_effect.specs.Moves.{sign_extended, move_plan, sign_extend_p
 ghost use Rattle.operands.specs.Whole.{whole, after, IsPlainOf, IsPlainWithin, KeepsOther};
 ghost use Rattle.operands.specs.Memory.{IsMemoryOf};
 
+use crate::reads::number;
 use mdl_insn::{Insn, Operand};
 use mdl_num::{bound, half, signed, word};
 use mdl_state::{Fault, Regs, Size};
 use mem_iface::Linear;
 use operands::{
-    ACCUMULATOR, DATA, is_nothing, is_plain, narrow_value, open, own_size, read_sized, reg, set,
-    set_reg, value, write,
+    ACCUMULATOR, DATA, is_nothing, narrow_value, open, own_size, reg, set, set_reg, value, write,
 };
 
 /// MOV.
@@ -130,6 +130,7 @@ pub(crate) fn sign(regs: &mut Regs, insn: &Insn)
 }
 
 /// A number put where an operand says.
+#[inline(always)]
 #[tactic(auto, using(mdl_state::specs::Rules::attempts, operands::proofs::OperandKinds::kinds))]
 pub(crate) fn put<L: Linear>(
     regs: &mut Regs,
@@ -149,17 +150,20 @@ pub(crate) fn put<L: Linear>(
     ensures unchanged { OnErr result (regs.new ≡ regs.old) }
     ensures keeps { Keeps (L.seen lin.old) (L.seen lin.new) }
 {
-    if is_plain(operand) {
-        set(regs, operand, size, value);
-        return Ok(());
+    match operand {
+        Operand::Gpr(_, _) => {
+            set(regs, operand, size, value);
+            Ok(())
+        }
+        Operand::At(_, _) => write(regs, lin, operand, size, value),
+        _ => unreachable!(),
     }
-    write(regs, lin, operand, size, value)?;
-    Ok(())
 }
 
-/// MOV from memory or to it.
-#[tactic(auto, using(mdl_state::specs::Rules::attempts, operands::proofs::OperandKinds::kinds), unfolding(mdl_effect::specs::Moves::move_plan))]
-pub(crate) fn move_memory<L: Linear>(regs: &mut Regs, lin: &mut L, insn: &Insn) -> Result<(), Fault>
+/// MOV of registers, numbers and memory.
+#[inline(always)]
+#[tactic(auto, using(mdl_state::specs::Rules::attempts, crate::proofs::Numbers::numbers), unfolding(crate::specs::Reads::moving))]
+pub(crate) fn move_value<L: Linear>(regs: &mut Regs, lin: &mut L, insn: &Insn) -> Result<(), Fault>
     requires place { is_place insn.now.a ≡ true }
     requires value { is_value insn.now.b ≡ true }
     requires a { IsOf insn.now.size insn.now.a }
@@ -173,14 +177,8 @@ pub(crate) fn move_memory<L: Linear>(regs: &mut Regs, lin: &mut L, insn: &Insn) 
     ensures unchanged { OnErr result (regs.new ≡ regs.old) }
     ensures keeps { Keeps (L.seen lin.old) (L.seen lin.new) }
 {
-    if is_plain(&insn.b) {
-        let value = value(regs, &insn.b, insn.size);
-        put(regs, lin, &insn.a, insn.size, value)?;
-        return Ok(());
-    }
-    let value = read_sized(regs, lin, &insn.b, insn.size)?;
-    put(regs, lin, &insn.a, insn.size, value)?;
-    Ok(())
+    let value = number(regs, lin, &insn.b, insn.size)?;
+    put(regs, lin, &insn.a, insn.size, value)
 }
 
 /// XCHG with memory. The register is set after the last check.

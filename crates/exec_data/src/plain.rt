@@ -9,6 +9,7 @@ use mdl_insn::{Insn, Op, Operand};
 use operands::is_plain;
 
 /// Whether the mnemonic is that of a data instruction.
+#[inline(always)]
 pub(crate) fn is_data(op: Op) -> bool
     ensures { result ≡ is_data op }
 {
@@ -70,6 +71,7 @@ fn is_segment_pop(insn: &Insn) -> bool
 }
 
 /// Whether `run` runs the instruction.
+#[inline(always)]
 pub fn runs_data(insn: &Insn) -> bool
     ensures { result ≡ runs_data insn.now }
 {

@@ -1,23 +1,50 @@
-//! Operands that are only read: the instruction runs on the number.
+//! Operands that are only read: their numbers, and instructions that run on these.
 
-ghost use Rattle.std.specs.Prelude.{◌≡◌, true, false, OnErr};
-ghost use Rattle.mdl_state.specs.Serving.{by_pick};
+ghost use Rattle.std.specs.Prelude.{◌≡◌, ◌<◌, ℕ, true, false, IfOk, OnErr};
+ghost use Rattle.mdl_state.specs.Bytes.{bound_of};
+ghost use Rattle.mdl_state.specs.Serving.{by_pick, outcome};
 ghost use Rattle.mdl_state.specs.Accesses.{Keeps};
 ghost use Rattle.mdl_state.specs.Attempt.{tried};
 ghost use Rattle.mdl_cpu.specs.Addresses.{HasAddress};
 ghost use Rattle.mdl_effect.specs.Operands.{is_plain, is_nothing};
-ghost use Rattle.mdl_effect.specs.Kinds.{is_memory};
+ghost use Rattle.mdl_effect.specs.Kinds.{is_memory, is_value};
 ghost use Rattle.mdl_effect.specs.DataEffects.{data_effect};
-ghost use Rattle.mdl_effect.specs.Forms.{IsFormed};
+ghost use Rattle.mdl_effect.specs.Forms.{IsFormed, IsOf};
 ghost use Rattle.operands.specs.Whole.{whole, after};
-ghost use Rattle.exec_data.specs.Reads.{reads_first, reads_second, with_first, with_second};
+ghost use Rattle.exec_data.specs.Reads.{number_plan, reads_first, reads_second, with_first, with_second};
 
 use crate::plain_run::run_formed;
 use lazy_flags::Flags;
 use mdl_insn::{Insn, Operand};
-use mdl_state::{Fault, Regs};
+use mdl_state::{Fault, Regs, Size};
 use mem_iface::Linear;
-use operands::{read, size_of};
+use operands::{read, read_sized, reg, size_of};
+
+/// The number of an operand.
+#[inline(always)]
+#[tactic(auto, unfolding(crate::specs::Reads::number_plan))]
+pub(crate) fn number<L: Linear>(
+    regs: &Regs,
+    lin: &mut L,
+    operand: &Operand,
+    size: Size,
+) -> Result<u32, Fault>
+    requires value { is_value operand.now ≡ true }
+    requires form { IsOf size operand.now }
+    requires address { HasAddress operand.now }
+    ensures run { (flags : ℕ) → (outcome result, L.seen lin.new)
+        ≡ tried (by_pick L.pick) 0 (number_plan (whole regs.now flags) operand.now) (L.seen lin.old) }
+    ensures bound { IfOk result (λ value. value < bound_of size) }
+    ensures keeps { Keeps (L.seen lin.old) (L.seen lin.new) }
+    ensures held { (L.seen lin.new).held ≡ (L.seen lin.old).held }
+{
+    match operand {
+        Operand::Gpr(n, _) => Ok(reg(regs, *n, size)),
+        Operand::Imm(value, _) => Ok(*value),
+        Operand::At(_, _) => read_sized(regs, lin, operand, size),
+        _ => unreachable!(),
+    }
+}
 
 /// The instruction with a number as its first operand.
 fn with_first(insn: &Insn, value: u32) -> Insn

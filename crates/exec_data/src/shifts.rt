@@ -1,19 +1,22 @@
 //! Shifts and rotates.
 
-ghost use Rattle.std.specs.Prelude.{◌≡◌, ◌≢◌, ◌<◌, OnErr};
+ghost use Rattle.std.specs.Prelude.{◌≡◌, ◌≢◌, ◌<◌, true, OnErr};
 ghost use Rattle.mdl_state.specs.declared.Size.TheVariants.{B1};
 ghost use Rattle.mdl_state.specs.Bytes.{bound_of};
 ghost use Rattle.mdl_state.specs.Serving.{by_pick};
 ghost use Rattle.mdl_state.specs.Accesses.{Keeps, HasRoom};
 ghost use Rattle.mdl_state.specs.Attempt.{tried};
+ghost use Rattle.mdl_cpu.specs.Addresses.{HasAddress};
 ghost use Rattle.mdl_num.specs.Flags.{flags_after};
 ghost use Rattle.mdl_effect.specs.Operands.{follow};
+ghost use Rattle.mdl_effect.specs.Kinds.{is_place};
+ghost use Rattle.mdl_effect.specs.Forms.{IsOf};
 ghost use Rattle.mdl_effect.specs.Shifts.{shifted, shift_plan, double_shift_plan};
 ghost use Rattle.operands.specs.Whole.{whole, after, IsPlainOf, KeepsOther};
 ghost use Rattle.operands.specs.Memory.{IsMemoryOf};
 
 use lazy_flags::Flags;
-use mdl_insn::{Insn, Op};
+use mdl_insn::{Insn, Op, Operand};
 use mdl_num::{Alu, RotateOp, ShiftOp};
 use mdl_state::{Fault, Regs, Size};
 use mem_iface::Linear;
@@ -98,6 +101,35 @@ pub(crate) fn shift_memory<L: Linear>(
     lin.hold(place, insn.size, answer.value);
     keep(flags, answer.flags);
     Ok(())
+}
+
+/// ROL to SAR, by where the operand is.
+#[inline(always)]
+#[tactic(auto, using(operands::proofs::OperandKinds::kinds, mdl_state::specs::Rules::attempts))]
+pub(crate) fn shift_place<L: Linear>(
+    regs: &mut Regs,
+    flags: &mut Flags,
+    lin: &mut L,
+    insn: &Insn,
+) -> Result<(), Fault>
+    requires place { is_place insn.now.a ≡ true }
+    requires a { IsOf insn.now.size insn.now.a }
+    requires b { IsPlainOf B1 insn.now.b }
+    requires address { HasAddress insn.now.a }
+    requires room { HasRoom (L.seen lin.old) 4 }
+    ensures run { (after result (whole regs.new flags.new), L.seen lin.new)
+        ≡ tried (by_pick L.pick) 0 (shift_plan insn.now (whole regs.old flags.old) (whole regs.new flags.new).eflags) (L.seen lin.old) }
+    ensures unchanged { OnErr result ((regs.new ≡ regs.old) × (flags.new ≡ flags.old)) }
+    ensures keeps { Keeps (L.seen lin.old) (L.seen lin.new) }
+{
+    match insn.a {
+        Operand::Gpr(_, _) => {
+            shift(regs, flags, insn);
+            Ok(())
+        }
+        Operand::At(_, _) => shift_memory(regs, flags, lin, insn),
+        _ => unreachable!(),
+    }
 }
 
 /// SHLD, with `left`, and SHRD in memory.

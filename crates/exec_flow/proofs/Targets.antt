@@ -44,3 +44,5 @@ code_kept r n B2 value seg = refl
 code_kept r n B4 value seg = refl
 
 pub ruleset calls = (tried-then_plan, code_kept)
+
+pub ruleset loops = (near_target, code_kept)

@@ -20,6 +20,7 @@ use operands::{above_top, below_top, general_protection, load, set_top, stack_to
 
 /// CALL. The address behind it is pushed before the new EIP is tested.
 #[tactic(auto, using(crate::proofs::Targets::calls), unfolding(mdl_effect::specs::Jumps::call_plan, mdl_cpu::specs::Stack::push_plan))]
+#[inline(always)]
 pub(crate) fn call<L: Linear>(
     regs: &mut Regs,
     lin: &mut L,
@@ -49,6 +50,7 @@ pub(crate) fn call<L: Linear>(
 
 /// RET.
 #[tactic(auto, using(crate::proofs::Targets::calls), unfolding(mdl_effect::specs::Jumps::return_plan, mdl_cpu::specs::Stack::pop_plan))]
+#[inline(always)]
 pub(crate) fn return_near<L: Linear>(
     regs: &mut Regs,
     lin: &mut L,

@@ -100,6 +100,7 @@ fn allow_top(regs: &Regs) -> Result<Next, Fault>
 
 /// ENTER. The new stack pointer is tested last.
 #[tactic(auto, using(mdl_state::specs::Rules::attempts), unfolding(mdl_effect::specs::StackEffects::enter_plan))]
+#[inline(never)]
 pub(crate) fn enter<L: Linear>(regs: &mut Regs, lin: &mut L, insn: &Insn) -> Result<Next, Fault>
     requires bytes { IsOf B2 insn.now.a }
     requires level { IsOf B1 insn.now.b }
@@ -126,6 +127,7 @@ pub(crate) fn enter<L: Linear>(regs: &mut Regs, lin: &mut L, insn: &Insn) -> Res
 
 /// LEAVE.
 #[tactic(auto, using(mdl_state::specs::Rules::attempts), unfolding(mdl_effect::specs::StackEffects::leave_plan))]
+#[inline(never)]
 pub(crate) fn leave<L: Linear>(regs: &mut Regs, lin: &mut L, insn: &Insn) -> Result<Next, Fault>
     ensures run { (flags : ℕ) → (ran result (whole regs.new flags), L.seen lin.new)
         ≡ tried (by_pick L.pick) 0 (leave_plan insn.now (whole regs.old flags)) (L.seen lin.old) }

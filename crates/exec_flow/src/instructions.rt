@@ -29,6 +29,7 @@ use mdl_state::{Fault, Next, Regs};
 use mem_iface::Linear;
 
 #[rattlefmt::skip]
+#[inline(always)]
 fn is_flow(op: Op) -> bool
     ensures { result ≡ is_flow op }
 {
@@ -41,6 +42,7 @@ fn is_flow(op: Op) -> bool
     }
 }
 
+#[inline(always)]
 fn is_pop(op: Op) -> bool
     ensures { result ≡ is_pop op }
 {
@@ -51,6 +53,7 @@ fn is_pop(op: Op) -> bool
 }
 
 /// Whether `run` runs an instruction.
+#[inline(always)]
 pub fn runs_flow(insn: &Insn) -> bool
     ensures { result ≡ runs_flow insn.now }
 {
@@ -59,6 +62,7 @@ pub fn runs_flow(insn: &Insn) -> bool
 
 /// A branch where a condition holds.
 #[tactic(auto, using(operands::proofs::Statuses::packed_bits), unfolding(mdl_effect::specs::FlowEffects::flow_effect))]
+#[inline(always)]
 pub(crate) fn run_branch(
     regs: &mut Regs,
     flags: &Flags,
@@ -83,6 +87,7 @@ pub(crate) fn run_branch(
 
 /// An instruction of the flags, which has no fault.
 #[tactic(auto, using(operands::proofs::Statuses::packed_bits), unfolding(mdl_effect::specs::FlowEffects::flow_effect))]
+#[inline(never)]
 pub(crate) fn run_flag(regs: &mut Regs, flags: &mut Flags, insn: &Insn)
     requires flag { is_flag insn.now.op ≡ true }
     ensures { (back : ℕ) (serve : Serve) (m : Mem) → (followed (whole regs.new flags.new), m)
@@ -103,6 +108,7 @@ pub(crate) fn run_flag(regs: &mut Regs, flags: &mut Flags, insn: &Insn)
 /// An instruction whose operands have the form of its mnemonic.
 #[rattlefmt::skip]
 #[tactic(auto, using(operands::proofs::OperandKinds::kinds), unfolding(mdl_effect::specs::FlowEffects::flow_effect))]
+#[inline(always)]
 fn run_formed<L: Linear>(regs: &mut Regs, flags: &mut Flags, lin: &mut L, insn: &Insn, back: u32) -> Result<Next, Fault>
     requires runs { runs_flow insn.now ≡ true }
     requires formed { IsFormed insn.now }
@@ -137,6 +143,7 @@ fn run_formed<L: Linear>(regs: &mut Regs, flags: &mut Flags, lin: &mut L, insn: 
 ///
 /// The status flags of EFLAGS are those of `flags`. A fault leaves what was held before it to be
 /// dropped. ENTER may hold 128 bytes.
+#[inline(always)]
 pub fn run<L: Linear>(
     regs: &mut Regs,
     flags: &mut Flags,

@@ -26,6 +26,7 @@ use seg_unit::segment;
 
 /// Whether code may go on at an EIP: it lies within the limit of CS.
 #[tactic(auto, unfolding(mdl_state::specs::Registers::seg_of))]
+#[inline(always)]
 pub(crate) fn is_inside(regs: &Regs, eip: u32) -> bool
     ensures { (flags : ℕ) → result ≡ nat_le eip (seg_of (whole regs.now flags) Cs).limit }
 {
@@ -33,6 +34,7 @@ pub(crate) fn is_inside(regs: &Regs, eip: u32) -> bool
 }
 
 /// A jump to an EIP.
+#[inline(always)]
 fn land(regs: &mut Regs, eip: u32) -> Result<Next, Fault>
     ensures run { (flags : ℕ) (serve : Serve) (m : Mem) → (ran result (whole regs.new flags), m)
         ≡ tried serve 0 (landing (whole regs.old flags) (whole regs.old flags) eip) m }
@@ -46,6 +48,7 @@ fn land(regs: &mut Regs, eip: u32) -> Result<Next, Fault>
 }
 
 /// Whether an operand is a displacement.
+#[inline(always)]
 fn is_relative(operand: &Operand) -> bool
     ensures { result ≡ is_relative operand.now }
 {
@@ -56,6 +59,7 @@ fn is_relative(operand: &Operand) -> bool
 }
 
 /// A displacement, or 0 where there is none.
+#[inline(always)]
 fn displacement(operand: &Operand) -> u32
     ensures { result ≡ displacement_of operand.now }
 {
@@ -66,6 +70,7 @@ fn displacement(operand: &Operand) -> u32
 }
 
 /// So far from behind the instruction, cut to the operand size.
+#[inline(always)]
 pub(crate) fn displaced(insn: &Insn, back: u32) -> u32
     ensures { result ≡ (back + displacement_of insn.now.a) % bound_of insn.now.size }
 {
@@ -74,6 +79,7 @@ pub(crate) fn displaced(insn: &Insn, back: u32) -> u32
 
 /// The number of an operand, in a register or in memory.
 #[tactic(auto, using(mdl_state::specs::Rules::attempts, operands::proofs::OperandKinds::kinds))]
+#[inline(always)]
 pub(crate) fn number<L: Linear>(
     regs: &Regs,
     lin: &mut L,
@@ -98,6 +104,7 @@ pub(crate) fn number<L: Linear>(
 
 /// Where JMP and CALL lead.
 #[tactic(auto, using(crate::proofs::Targets::targets, operands::proofs::OperandKinds::kinds))]
+#[inline(always)]
 pub(crate) fn target<L: Linear>(
     regs: &Regs,
     lin: &mut L,
@@ -121,6 +128,7 @@ pub(crate) fn target<L: Linear>(
 
 /// JMP.
 #[tactic(auto, unfolding(mdl_effect::specs::Jumps::jump_plan))]
+#[inline(always)]
 pub(crate) fn jump<L: Linear>(
     regs: &mut Regs,
     lin: &mut L,
@@ -141,6 +149,7 @@ pub(crate) fn jump<L: Linear>(
 
 /// A branch by a displacement, where it is taken.
 #[tactic(auto, using(crate::proofs::Targets::near_target))]
+#[inline(always)]
 pub(crate) fn branch(taken: bool, regs: &mut Regs, insn: &Insn, back: u32) -> Result<Next, Fault>
     requires near { is_relative insn.now.a ≡ true }
     ensures run { (flags : ℕ) (serve : Serve) (m : Mem) → (ran result (whole regs.new flags), m)
@@ -155,6 +164,7 @@ pub(crate) fn branch(taken: bool, regs: &mut Regs, insn: &Insn, back: u32) -> Re
 
 /// Jcc.
 #[tactic(auto, unfolding(mdl_effect::specs::Jumps::jump_if_plan))]
+#[inline(always)]
 pub(crate) fn jump_if(
     number: u8,
     regs: &mut Regs,

@@ -34,6 +34,7 @@ const POPPED: [u8; 8] = [
 
 /// POP but of a segment register. The address of an operand in memory has the new stack pointer.
 #[tactic(auto, using(mdl_state::specs::Rules::attempts, operands::proofs::OperandKinds::kinds), unfolding(mdl_effect::specs::StackEffects::pop_operand_plan))]
+#[inline(always)]
 pub(crate) fn pop_operand<L: Linear>(
     regs: &mut Regs,
     lin: &mut L,
@@ -91,6 +92,7 @@ fn pop_all<L: Linear>(regs: &mut Regs, lin: &mut L, size: Size, numbers: &[u8]) 
 
 /// POPA.
 #[tactic(auto, using(mdl_state::specs::Rules::attempts), unfolding(mdl_effect::specs::StackEffects::popa_plan))]
+#[inline(never)]
 pub(crate) fn pop_registers<L: Linear>(
     regs: &mut Regs,
     lin: &mut L,

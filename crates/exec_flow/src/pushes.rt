@@ -34,6 +34,7 @@ const PUSHED: [u8; 8] = [
 ];
 
 /// Whether an operand is a segment register.
+#[inline(always)]
 pub(crate) fn is_segment(operand: &Operand) -> bool
     ensures { result ≡ is_segment operand.now }
 {
@@ -57,6 +58,7 @@ fn selector(regs: &Regs, operand: &Operand) -> u32
 
 /// PUSH. Its operand is read before the stack pointer moves.
 #[tactic(auto, using(mdl_state::specs::Rules::attempts, crate::proofs::Orders::pushes, operands::proofs::OperandKinds::kinds))]
+#[inline(always)]
 pub(crate) fn push_operand<L: Linear>(
     regs: &mut Regs,
     lin: &mut L,
@@ -108,6 +110,7 @@ fn push_all<L: Linear>(
 
 /// PUSHA: the registers as they stand before the first is pushed.
 #[tactic(auto, using(mdl_state::specs::Rules::attempts), unfolding(mdl_effect::specs::StackEffects::pusha_plan))]
+#[inline(never)]
 pub(crate) fn push_registers<L: Linear>(
     regs: &mut Regs,
     lin: &mut L,

@@ -4,34 +4,30 @@ use Rattle.mdl_effect.specs.Ways.{Leaves}
 use Rattle.mdl_effect.proofs.Attempts.{data_leaves}
 use Rattle.mdl_effect.proofs.FormLaws.{spelt_formed}
 use Rattle.operands.specs.Whole.{whole, ran}
-use Rattle.operands.proofs.Steadies.{kept_steady, ran_steady}
+use Rattle.operands.proofs.Steadies.{ran_steady}
 use Rattle.exec_data.proofs.PlaceLaws.{spelt_placed}
 use Rattle.exec_data.proofs.instructions.run.Goals as goal
 
-pub run_memory-requires-clause-formed : goal.run_memory-requires-clause-formed
-run_memory-requires-clause-formed g c =
+pub run_by_mnemonic-requires-clause-formed : goal.run_by_mnemonic-requires-clause-formed
+run_by_mnemonic-requires-clause-formed g c =
     let spelt = c.requires.spelt in
     spelt_formed spelt.0 spelt.1 c.args.insn.now spelt.2
 
-pub run_memory-requires-clause-placed : goal.run_memory-requires-clause-placed
-run_memory-requires-clause-placed g c =
+pub run_by_mnemonic-requires-clause-placed : goal.run_by_mnemonic-requires-clause-placed
+run_by_mnemonic-requires-clause-placed g c =
     let spelt = c.requires.spelt in
     spelt_placed spelt.0 spelt.1 c.args.insn.now spelt.2
 
-pub run_memory-requires-clause-addresses : goal.run_memory-requires-clause-addresses
-run_memory-requires-clause-addresses g c =
+pub run_by_mnemonic-requires-clause-addresses : goal.run_by_mnemonic-requires-clause-addresses
+run_by_mnemonic-requires-clause-addresses g c =
     let spelt = c.requires.spelt in
     spelt_addresses spelt.0 spelt.1 c.args.insn.now spelt.2
-
-pub returns-then-is_plain_data-clause-steady : goal.returns-then-is_plain_data-clause-steady
-returns-then-is_plain_data-clause-steady g c =
-    kept_steady c.args.regs.now c.run_plain.new.regs c.args.flags.now c.run_plain.new.flags c.run_plain.ensures.kept
 
 pub returns-clause-steady : goal.returns-clause-steady
 returns-clause-steady g c =
     let spelt = c.requires.spelt in
     let old = whole c.args.regs.now c.args.flags.now in
-    let now = c.run_memory in
+    let now = c.run_by_mnemonic in
     let new = whole now.new.regs now.new.flags in
     ran_steady (Leaves old) now.result c.args.regs.now now.new.regs c.args.flags.now now.new.flags (λ after leaves. leaves.0)
     (data_leaves spelt.0 spelt.1 c.args.insn.now old new.eflags (by_pick g.L.Linear.pick) 0 (g.L.Linear.seen c.args.lin.now) (g.L.Linear.seen now.new.lin)
