@@ -1,1 +1,2 @@
 pub mod PortStrings
+pub mod Repeats

@@ -3,16 +3,17 @@
 ghost use Rattle.std.specs.Prelude.{◌≡◌, ◌<◌, ℕ};
 ghost use Rattle.mdl_state.specs.Bytes.{bound_of};
 ghost use Rattle.mdl_effect.specs.Operands.{address_size};
-ghost use Rattle.mdl_effect.specs.StringEffects.{source_index, destination_index, stepped, past_source, past_destination, past_both};
+ghost use Rattle.mdl_effect.specs.StringEffects.{source_index, destination_index, stepped};
 ghost use Rattle.operands.specs.Whole.{whole, KeepsOther};
+ghost use Rattle.string_ops.specs.Repeats.{source_passed, destination_passed};
 
-use mdl_insn::Insn;
 use mdl_num::{bit, bound, low};
 use mdl_state::{Regs, Size};
 use mem_iface::bytes_of;
 use operands::{DESTINATION, DF, SOURCE, address_size, reg, set_reg};
 
 /// SI or ESI.
+#[inline(always)]
 pub(crate) fn source_index(regs: &Regs, wide: bool) -> u32
     ensures value { (flags : ℕ) → result ≡ source_index (whole regs.now flags) wide }
     ensures bound { result < bound_of (address_size wide) }
@@ -21,6 +22,7 @@ pub(crate) fn source_index(regs: &Regs, wide: bool) -> u32
 }
 
 /// DI or EDI.
+#[inline(always)]
 pub(crate) fn destination_index(regs: &Regs, wide: bool) -> u32
     ensures value { (flags : ℕ) → result ≡ destination_index (whole regs.now flags) wide }
     ensures bound { result < bound_of (address_size wide) }
@@ -30,6 +32,7 @@ pub(crate) fn destination_index(regs: &Regs, wide: bool) -> u32
 
 /// An index behind a number of this size, or before it where DF is 1.
 #[tactic(auto, using(operands::proofs::Statuses::kept_flag))]
+#[inline(always)]
 fn stepped(regs: &Regs, wide: bool, size: Size, index: u32) -> u32
     ensures value { (flags : ℕ) → result ≡ stepped (whole regs.now flags) wide size index }
     ensures bound { result < bound_of (address_size wide) }
@@ -43,31 +46,34 @@ fn stepped(regs: &Regs, wide: bool, size: Size, index: u32) -> u32
     }
 }
 
-/// Moves SI or ESI past the source.
-pub(crate) fn pass_source(regs: &mut Regs, insn: &Insn)
-    ensures value { (flags : ℕ) → whole regs.new flags ≡ past_source (whole regs.old flags) insn.now }
+/// Moves SI or ESI past a source of this size.
+#[inline(always)]
+pub(crate) fn pass_source(regs: &mut Regs, wide: bool, size: Size)
+    ensures value { (flags : ℕ) → whole regs.new flags ≡ source_passed (whole regs.old flags) wide size }
     ensures kept { KeepsOther regs.old regs.new }
 {
-    let from = source_index(regs, insn.wide);
-    let index = stepped(regs, insn.wide, insn.size, from);
-    set_reg(regs, SOURCE, address_size(insn.wide), index);
+    let from = source_index(regs, wide);
+    let index = stepped(regs, wide, size, from);
+    set_reg(regs, SOURCE, address_size(wide), index);
 }
 
-/// Moves DI or EDI past the destination.
-pub(crate) fn pass_destination(regs: &mut Regs, insn: &Insn)
-    ensures value { (flags : ℕ) → whole regs.new flags ≡ past_destination (whole regs.old flags) insn.now }
+/// Moves DI or EDI past a destination of this size.
+#[inline(always)]
+pub(crate) fn pass_destination(regs: &mut Regs, wide: bool, size: Size)
+    ensures value { (flags : ℕ) → whole regs.new flags ≡ destination_passed (whole regs.old flags) wide size }
     ensures kept { KeepsOther regs.old regs.new }
 {
-    let from = destination_index(regs, insn.wide);
-    let index = stepped(regs, insn.wide, insn.size, from);
-    set_reg(regs, DESTINATION, address_size(insn.wide), index);
+    let from = destination_index(regs, wide);
+    let index = stepped(regs, wide, size, from);
+    set_reg(regs, DESTINATION, address_size(wide), index);
 }
 
 /// Moves both.
-pub(crate) fn pass_both(regs: &mut Regs, insn: &Insn)
-    ensures value { (flags : ℕ) → whole regs.new flags ≡ past_both (whole regs.old flags) insn.now }
+#[inline(always)]
+pub(crate) fn pass_both(regs: &mut Regs, wide: bool, size: Size)
+    ensures value { (flags : ℕ) → whole regs.new flags ≡ destination_passed (source_passed (whole regs.old flags) wide size) wide size }
     ensures kept { KeepsOther regs.old regs.new }
 {
-    pass_source(regs, insn);
-    pass_destination(regs, insn);
+    pass_source(regs, wide, size);
+    pass_destination(regs, wide, size);
 }

@@ -18,6 +18,7 @@ use mdl_state::{Fault, Next, Regs};
 use mem_iface::{Linear, Ports};
 
 /// One iteration of the instruction by its mnemonic.
+#[inline(always)]
 pub(crate) fn iterate<L: Linear, P: Ports>(
     regs: &mut Regs,
     flags: &mut Flags,

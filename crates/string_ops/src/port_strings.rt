@@ -51,6 +51,7 @@ fn open_destination<L: Linear>(regs: &Regs, lin: &mut L, insn: &Insn) -> Result<
 }
 
 /// INS: the port is read where it is permitted and the destination has passed, and what it gives is held there.
+#[inline(never)]
 pub(crate) fn input_string<L: Linear, P: Ports>(
     regs: &mut Regs,
     lin: &mut L,
@@ -70,11 +71,12 @@ pub(crate) fn input_string<L: Linear, P: Ports>(
     let place = open_destination(regs, lin, insn)?;
     let value = ports.input(port, insn.size);
     lin.hold(place, insn.size, value);
-    pass_destination(regs, insn);
+    pass_destination(regs, insn.wide, insn.size);
     Ok(Next::Follow)
 }
 
 /// OUTS: the port is written where it is permitted and the source has passed.
+#[inline(never)]
 pub(crate) fn output_string<L: Linear, P: Ports>(
     regs: &mut Regs,
     lin: &mut L,
@@ -92,6 +94,6 @@ pub(crate) fn output_string<L: Linear, P: Ports>(
     port_allowed(regs, lin, port, insn.size)?;
     let value = read_source(regs, lin, insn)?;
     ports.output(port, insn.size, value);
-    pass_source(regs, insn);
+    pass_source(regs, insn.wide, insn.size);
     Ok(Next::Follow)
 }

@@ -9,8 +9,9 @@ ghost use Rattle.mdl_insn.specs.declared.instruction.Rep.TheVariants.{Equal};
 ghost use Rattle.mem_iface.specs.Rules.{rules_of};
 ghost use Rattle.mdl_effect.specs.Operands.{PortUse};
 ghost use Rattle.mdl_effect.specs.Ports.{Accesses};
-ghost use Rattle.mdl_effect.specs.StringEffects.{runs_string, compares, is_wanted, goes_on, counted_after, repeating};
+ghost use Rattle.mdl_effect.specs.StringEffects.{runs_string, compares, is_wanted, repeating};
 ghost use Rattle.operands.specs.Whole.{whole, ran_at, KeepsOther};
+ghost use Rattle.string_ops.specs.Repeats.{goes_on, counted};
 
 use crate::iterations::iterate;
 use lazy_flags::Flags;
@@ -21,6 +22,7 @@ use mem_iface::{Linear, Ports};
 use operands::{count_down, count_of};
 
 /// Whether the instruction compares.
+#[inline(always)]
 fn compares(op: Op) -> bool
     ensures { result ≡ compares op }
 {
@@ -31,6 +33,7 @@ fn compares(op: Op) -> bool
 }
 
 /// Whether the repeat goes on behind numbers that are equal, or not.
+#[inline(always)]
 fn is_wanted(rep: Rep, equal: bool) -> bool
     ensures { result ≡ is_wanted rep equal }
 {
@@ -42,24 +45,26 @@ fn is_wanted(rep: Rep, equal: bool) -> bool
 
 /// Whether more iterations follow.
 #[tactic(auto, using(operands::proofs::Statuses::packed_bits))]
-fn goes_on(regs: &Regs, flags: &Flags, insn: &Insn) -> bool
-    ensures { result ≡ goes_on insn.now (whole regs.now flags.now) }
+#[inline(always)]
+fn goes_on(regs: &Regs, flags: &Flags, rep: Rep, compares: bool, wide: bool) -> bool
+    ensures { result ≡ goes_on rep compares wide (whole regs.now flags.now) }
 {
-    if count_of(regs, insn.wide) == 0 {
+    if count_of(regs, wide) == 0 {
         return false;
     }
-    !compares(insn.op) || is_wanted(insn.rep, flags.get(ZF))
+    !compares || is_wanted(rep, flags.get(ZF))
 }
 
 /// Counts an iteration, and says whether EIP stays at the instruction.
-fn count(regs: &mut Regs, flags: &Flags, insn: &Insn) -> Next
+#[inline(always)]
+fn count(regs: &mut Regs, flags: &Flags, rep: Rep, compares: bool, wide: bool) -> Next
     ensures value { (next : Next) (access : PortUse) →
         (record { regs = whole regs.new flags.now; next = result; access = access })
-        ≡ counted_after insn.now (record { regs = whole regs.old flags.now; next = next; access = access }) }
+        ≡ counted rep compares wide (record { regs = whole regs.old flags.now; next = next; access = access }) }
     ensures kept { KeepsOther regs.old regs.new }
 {
-    count_down(regs, insn.wide);
-    if goes_on(regs, flags, insn) {
+    count_down(regs, wide);
+    if goes_on(regs, flags, rep, compares, wide) {
         Next::Again
     } else {
         Next::Follow
@@ -68,6 +73,7 @@ fn count(regs: &mut Regs, flags: &Flags, insn: &Insn) -> Next
 
 /// One iteration of an instruction with a repeat prefix, unless the count is 0.
 // `Equal` stands for either prefix; which one it is counts in `goes_on` alone.
+#[inline(always)]
 pub(crate) fn repeat<L: Linear, P: Ports>(
     regs: &mut Regs,
     flags: &mut Flags,
@@ -84,9 +90,11 @@ pub(crate) fn repeat<L: Linear, P: Ports>(
     ensures unchanged { OnErr result ((regs.new ≡ regs.old) × (flags.new ≡ flags.old) × (ports.new ≡ ports.old)) }
     ensures keeps { Keeps (L.seen lin.old) (L.seen lin.new) }
 {
-    if count_of(regs, insn.wide) == 0 {
+    let (rep, wide) = (insn.rep, insn.wide);
+    let compares = compares(insn.op);
+    if count_of(regs, wide) == 0 {
         return Ok(Next::Follow);
     }
     iterate(regs, flags, lin, ports, insn)?;
-    Ok(count(regs, flags, insn))
+    Ok(count(regs, flags, rep, compares, wide))
 }

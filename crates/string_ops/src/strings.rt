@@ -7,8 +7,10 @@ ghost use Rattle.mdl_state.specs.Bytes.{bound_of};
 ghost use Rattle.mdl_state.specs.Serving.{by_pick, outcome};
 ghost use Rattle.mdl_state.specs.Accesses.{Keeps, HasRoom};
 ghost use Rattle.mdl_state.specs.Attempt.{tried};
+ghost use Rattle.mdl_state.specs.declared.Seg.TheVariants.{Es};
+ghost use Rattle.mdl_cpu.specs.Access.{store_to};
 ghost use Rattle.mdl_cpu.specs.Loads.{answered};
-ghost use Rattle.mdl_effect.specs.StringEffects.{read_source, read_destination, write_destination, compared};
+ghost use Rattle.mdl_effect.specs.StringEffects.{read_source, read_destination, destination_index, compared};
 ghost use Rattle.mdl_effect.specs.StringEffects.{move_string_plan, compare_strings_plan, store_string_plan, load_string_plan, scan_string_plan, iterate_plan};
 ghost use Rattle.mdl_effect.specs.StringEffects.{runs_string};
 ghost use Rattle.operands.specs.Whole.{whole, after, KeepsOther};
@@ -22,6 +24,7 @@ use mem_iface::Linear;
 use operands::{ACCUMULATOR, load, reg, set_reg, store};
 
 /// The number at the source.
+#[inline(always)]
 pub(crate) fn read_source<L: Linear>(regs: &Regs, lin: &mut L, insn: &Insn) -> Result<u32, Fault>
     ensures run { (flags : ℕ) → (outcome result, L.seen lin.new)
         ≡ tried (by_pick L.pick) 0 (read_source insn.now (whole regs.now flags)) (L.seen lin.old) }
@@ -35,6 +38,7 @@ pub(crate) fn read_source<L: Linear>(regs: &Regs, lin: &mut L, insn: &Insn) -> R
 }
 
 /// The number at the destination.
+#[inline(always)]
 fn read_destination<L: Linear>(regs: &Regs, lin: &mut L, insn: &Insn) -> Result<u32, Fault>
     ensures run { (flags : ℕ) → (outcome result, L.seen lin.new)
         ≡ tried (by_pick L.pick) 0 (read_destination insn.now (whole regs.now flags)) (L.seen lin.old) }
@@ -47,24 +51,27 @@ fn read_destination<L: Linear>(regs: &Regs, lin: &mut L, insn: &Insn) -> Result<
 }
 
 /// A number put at the destination.
+#[inline(always)]
 fn write_destination<L: Linear>(
     regs: &Regs,
     lin: &mut L,
-    insn: &Insn,
+    wide: bool,
+    size: Size,
     value: u32,
 ) -> Result<(), Fault>
-    requires bound { value < bound_of insn.now.size }
+    requires bound { value < bound_of size }
     requires room { HasRoom (L.seen lin.old) 4 }
     ensures run { (flags : ℕ) → (outcome result, L.seen lin.new)
-        ≡ tried (by_pick L.pick) 0 (write_destination insn.now (whole regs.now flags) value) (L.seen lin.old) }
+        ≡ tried (by_pick L.pick) 0 (store_to (whole regs.now flags) Es (destination_index (whole regs.now flags) wide) size value) (L.seen lin.old) }
     ensures keeps { Keeps (L.seen lin.old) (L.seen lin.new) }
 {
-    let index = destination_index(regs, insn.wide);
-    store(regs, lin, Seg::Es, index, insn.size, value)
+    let index = destination_index(regs, wide);
+    store(regs, lin, Seg::Es, index, size, value)
 }
 
 /// The flags of a number less another.
 #[tactic(auto, using(operands::proofs::Statuses::statuses))]
+#[inline(always)]
 fn compare(flags: &mut Flags, size: Size, a: u32, b: u32)
     requires a { a < bound_of size }
     requires b { b < bound_of size }
@@ -75,6 +82,7 @@ fn compare(flags: &mut Flags, size: Size, a: u32, b: u32)
 
 /// MOVS.
 #[tactic(auto, using(mdl_state::specs::Rules::attempts), unfolding(mdl_effect::specs::StringEffects::move_string_plan))]
+#[inline(always)]
 fn move_string<L: Linear>(regs: &mut Regs, lin: &mut L, insn: &Insn) -> Result<(), Fault>
     requires room { HasRoom (L.seen lin.old) 4 }
     ensures run { (flags : ℕ) → (answered result (whole regs.new flags), L.seen lin.new)
@@ -83,14 +91,16 @@ fn move_string<L: Linear>(regs: &mut Regs, lin: &mut L, insn: &Insn) -> Result<(
     ensures unchanged { OnErr result (regs.new ≡ regs.old) }
     ensures keeps { Keeps (L.seen lin.old) (L.seen lin.new) }
 {
+    let (wide, size) = (insn.wide, insn.size);
     let value = read_source(regs, lin, insn)?;
-    write_destination(regs, lin, insn, value)?;
-    pass_both(regs, insn);
+    write_destination(regs, lin, wide, size, value)?;
+    pass_both(regs, wide, size);
     Ok(())
 }
 
 /// CMPS: the flags of the source less the destination.
 #[tactic(auto, using(mdl_state::specs::Rules::attempts), unfolding(mdl_effect::specs::StringEffects::compare_strings_plan))]
+#[inline(always)]
 fn compare_strings<L: Linear>(
     regs: &mut Regs,
     flags: &mut Flags,
@@ -106,12 +116,13 @@ fn compare_strings<L: Linear>(
     let a = read_source(regs, lin, insn)?;
     let b = read_destination(regs, lin, insn)?;
     compare(flags, insn.size, a, b);
-    pass_both(regs, insn);
+    pass_both(regs, insn.wide, insn.size);
     Ok(())
 }
 
 /// STOS.
 #[tactic(auto, using(mdl_state::specs::Rules::attempts), unfolding(mdl_effect::specs::StringEffects::store_string_plan))]
+#[inline(always)]
 fn store_string<L: Linear>(regs: &mut Regs, lin: &mut L, insn: &Insn) -> Result<(), Fault>
     requires room { HasRoom (L.seen lin.old) 4 }
     ensures run { (flags : ℕ) → (answered result (whole regs.new flags), L.seen lin.new)
@@ -120,14 +131,16 @@ fn store_string<L: Linear>(regs: &mut Regs, lin: &mut L, insn: &Insn) -> Result<
     ensures unchanged { OnErr result (regs.new ≡ regs.old) }
     ensures keeps { Keeps (L.seen lin.old) (L.seen lin.new) }
 {
-    let value = reg(regs, ACCUMULATOR, insn.size);
-    write_destination(regs, lin, insn, value)?;
-    pass_destination(regs, insn);
+    let (wide, size) = (insn.wide, insn.size);
+    let value = reg(regs, ACCUMULATOR, size);
+    write_destination(regs, lin, wide, size, value)?;
+    pass_destination(regs, wide, size);
     Ok(())
 }
 
 /// LODS.
 #[tactic(auto, using(mdl_state::specs::Rules::attempts), unfolding(mdl_effect::specs::StringEffects::load_string_plan))]
+#[inline(always)]
 fn load_string<L: Linear>(regs: &mut Regs, lin: &mut L, insn: &Insn) -> Result<(), Fault>
     ensures run { (flags : ℕ) → (answered result (whole regs.new flags), L.seen lin.new)
         ≡ tried (by_pick L.pick) 0 (load_string_plan insn.now (whole regs.old flags)) (L.seen lin.old) }
@@ -135,14 +148,16 @@ fn load_string<L: Linear>(regs: &mut Regs, lin: &mut L, insn: &Insn) -> Result<(
     ensures unchanged { OnErr result (regs.new ≡ regs.old) }
     ensures keeps { Keeps (L.seen lin.old) (L.seen lin.new) }
 {
+    let (wide, size) = (insn.wide, insn.size);
     let value = read_source(regs, lin, insn)?;
-    set_reg(regs, ACCUMULATOR, insn.size, value);
-    pass_source(regs, insn);
+    set_reg(regs, ACCUMULATOR, size, value);
+    pass_source(regs, wide, size);
     Ok(())
 }
 
 /// SCAS: the flags of the accumulator less the destination.
 #[tactic(auto, using(mdl_state::specs::Rules::attempts), unfolding(mdl_effect::specs::StringEffects::scan_string_plan))]
+#[inline(always)]
 fn scan_string<L: Linear>(
     regs: &mut Regs,
     flags: &mut Flags,
@@ -157,12 +172,13 @@ fn scan_string<L: Linear>(
 {
     let value = read_destination(regs, lin, insn)?;
     compare(flags, insn.size, reg(regs, ACCUMULATOR, insn.size), value);
-    pass_destination(regs, insn);
+    pass_destination(regs, insn.wide, insn.size);
     Ok(())
 }
 
 /// One iteration of an instruction that uses no port, by its mnemonic.
 #[tactic(auto, using(mdl_state::specs::Rules::attempts), unfolding(mdl_effect::specs::StringEffects::iterate_plan))]
+#[inline(always)]
 pub(crate) fn iterate_in_memory<L: Linear>(
     regs: &mut Regs,
     flags: &mut Flags,

@@ -22,5 +22,5 @@ returns-clause-run g c =
           (record { regs = whole c.iterate.new.regs flags; next = c.in_ok-iterate.field-0; access = h.1 }) (record { regs = whole c.count.new.regs flags; next = c.count.result; access = h.1 })
           (λ e. c.if-count_of-eq0.false (c.count_of.ensures.value c.args.flags.now ∙ e))
           (ap (λ eflags. with_status eflags flags) c.count.ensures.kept.eflags)
-          (c.count.ensures.value c.in_ok-iterate.field-0 h.1) h.3,
+          (rw c.compares-compares.ensures at (c.count.ensures.value c.in_ok-iterate.field-0 h.1)) h.3,
     )
