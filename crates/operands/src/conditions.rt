@@ -9,6 +9,7 @@ use mdl_num::{CF, OF, PF, SF, ZF};
 
 /// Whether a signed comparison came out less.
 #[tactic(auto, using(crate::proofs::Statuses::packed_less))]
+#[inline(always)]
 fn is_less(flags: &Flags) -> bool
     ensures { (e : ℕ) → result ≡ is_less (with_status e flags.now) }
 {
@@ -17,6 +18,7 @@ fn is_less(flags: &Flags) -> bool
 
 /// A condition with an even number, by half of it.
 #[tactic(auto, using(crate::proofs::Statuses::packed_bits))]
+#[inline(always)]
 fn holds(half: u8, flags: &Flags) -> bool
     ensures { (e : ℕ) → result ≡ holds half (with_status e flags.now) }
 {
@@ -34,6 +36,7 @@ fn holds(half: u8, flags: &Flags) -> bool
 
 /// Whether the condition with this number holds.
 #[tactic(auto, unfolding(mdl_effect::specs::Conditions::condition))]
+#[inline(always)]
 pub fn condition(number: u8, flags: &Flags) -> bool
     ensures { (e : ℕ) → result ≡ condition number (with_status e flags.now) }
 {

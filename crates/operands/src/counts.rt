@@ -10,6 +10,7 @@ use mdl_num::{bound, low};
 use mdl_state::{Regs, Size};
 
 /// The size of a count and of an index.
+#[inline(always)]
 pub fn address_size(wide: bool) -> Size
     ensures { result ≡ address_size wide }
 {
@@ -17,6 +18,7 @@ pub fn address_size(wide: bool) -> Size
 }
 
 /// CX or ECX.
+#[inline(always)]
 pub fn count_of(regs: &Regs, wide: bool) -> u32
     ensures value { (flags : ℕ) → result ≡ count_of (whole regs.now flags) wide }
     ensures bound { result < bound_of (address_size wide) }
@@ -25,6 +27,7 @@ pub fn count_of(regs: &Regs, wide: bool) -> u32
 }
 
 /// Makes it one less, modulo the address size.
+#[inline(always)]
 pub fn count_down(regs: &mut Regs, wide: bool)
     ensures value { (flags : ℕ) → whole regs.new flags ≡ counted_down (whole regs.old flags) wide }
     ensures kept { KeepsOther regs.old regs.new }

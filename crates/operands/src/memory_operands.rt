@@ -20,6 +20,7 @@ use seg_unit::address;
 
 /// The offset of a memory operand.
 #[tactic(auto, unfolding(mdl_cpu::specs::Addresses::offset_of))]
+#[inline(always)]
 pub fn offset(regs: &Regs, mem: &Mem) -> u32
     requires { IsAddress mem.now }
     ensures { (flags : ℕ) → result ≡ offset_of (whole regs.now flags) mem.now }
@@ -29,6 +30,7 @@ pub fn offset(regs: &Regs, mem: &Mem) -> u32
 
 /// The number of a memory operand.
 #[tactic(auto, unfolding(mdl_effect::specs::Operands::memory_read))]
+#[inline(always)]
 pub fn read<L: Linear>(regs: &Regs, lin: &mut L, operand: &Operand) -> Result<u32, Fault>
     requires memory { is_memory operand.now ≡ true }
     requires address { HasAddress operand.now }
@@ -46,6 +48,7 @@ pub fn read<L: Linear>(regs: &Regs, lin: &mut L, operand: &Operand) -> Result<u3
 
 /// The same where the operand has this size.
 #[tactic(auto, unfolding(mdl_effect::specs::Operands::memory_read))]
+#[inline(always)]
 pub fn read_sized<L: Linear>(
     regs: &Regs,
     lin: &mut L,
@@ -69,6 +72,7 @@ pub fn read_sized<L: Linear>(
 
 /// A number put into a memory operand.
 #[tactic(auto, unfolding(mdl_effect::specs::Operands::memory_write))]
+#[inline(always)]
 pub fn write<L: Linear>(
     regs: &Regs,
     lin: &mut L,
@@ -95,6 +99,7 @@ pub fn write<L: Linear>(
 
 /// The place of a memory operand that is read and then written.
 #[tactic(auto, unfolding(mdl_effect::specs::Operands::memory_change))]
+#[inline(always)]
 pub fn open<L: Linear>(
     regs: &Regs,
     lin: &mut L,

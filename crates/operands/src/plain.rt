@@ -11,6 +11,7 @@ use mdl_insn::Operand;
 use mdl_state::{Regs, Size};
 
 /// Whether the operand is a general register, a number, or nothing.
+#[inline(always)]
 pub fn is_plain(operand: &Operand) -> bool
     ensures { result ≡ is_plain operand.now }
 {
@@ -21,6 +22,7 @@ pub fn is_plain(operand: &Operand) -> bool
 }
 
 /// Whether there is no operand.
+#[inline(always)]
 pub fn is_nothing(operand: &Operand) -> bool
     ensures { result ≡ is_nothing operand.now }
 {
@@ -31,6 +33,7 @@ pub fn is_nothing(operand: &Operand) -> bool
 }
 
 /// The size that an operand has of its own.
+#[inline(always)]
 pub fn size_of(operand: &Operand) -> Size
     ensures { result ≡ size_of operand.now }
 {
@@ -41,6 +44,7 @@ pub fn size_of(operand: &Operand) -> Size
 }
 
 /// The same, which is within the size of the instruction.
+#[inline(always)]
 pub fn own_size(operand: &Operand, size: Size) -> Size
     requires { IsWithin size operand.now }
     ensures value { result ≡ size_of operand.now }
@@ -50,6 +54,7 @@ pub fn own_size(operand: &Operand, size: Size) -> Size
 }
 
 /// The number of an operand that is a register or a number of this size.
+#[inline(always)]
 pub fn value(regs: &Regs, operand: &Operand, size: Size) -> u32
     requires { IsOf size operand.now }
     ensures value { (flags : ℕ) → result ≡ value_of (whole regs.now flags) operand.now }
@@ -63,6 +68,7 @@ pub fn value(regs: &Regs, operand: &Operand, size: Size) -> u32
 }
 
 /// The number of an operand that has a size of its own.
+#[inline(always)]
 pub fn narrow_value(regs: &Regs, operand: &Operand, size: Size) -> u32
     requires { IsWithin size operand.now }
     ensures value { (flags : ℕ) → result ≡ value_of (whole regs.now flags) operand.now }
@@ -77,6 +83,7 @@ pub fn narrow_value(regs: &Regs, operand: &Operand, size: Size) -> u32
 }
 
 /// Sets an operand. A number takes no value.
+#[inline(always)]
 pub fn set(regs: &mut Regs, operand: &Operand, size: Size, value: u32)
     requires operand { IsOf size operand.now }
     requires bound { value < bound_of size }

@@ -28,6 +28,7 @@ pub const AH: u8 = 4;
 
 /// A register's number.
 #[tactic(auto, unfolding(mdl_state::specs::Registers::reg_of))]
+#[inline(always)]
 pub fn reg(regs: &Regs, n: u8, size: Size) -> u32
     requires { n < 8 }
     ensures value { (flags : ℕ) → result ≡ reg_of (whole regs.now flags) n size }
@@ -48,6 +49,7 @@ pub fn reg(regs: &Regs, n: u8, size: Size) -> u32
 
 /// Sets a register.
 #[tactic(auto, unfolding(mdl_state::specs::Registers::with_reg))]
+#[inline(always)]
 pub fn set_reg(regs: &mut Regs, n: u8, size: Size, value: u32)
     requires number { n < 8 }
     requires bound { value < bound_of size }

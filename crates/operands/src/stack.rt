@@ -18,6 +18,7 @@ use mem_iface::{Linear, bytes_of};
 
 /// The size of the stack pointer: that of ESP or of SP.
 #[tactic(auto, using(crate::proofs::Modes::modes))]
+#[inline(always)]
 pub fn stack_size(regs: &Regs) -> Size
     ensures own { result ≡ stack_size regs.now }
     ensures value { (flags : ℕ) → result ≡ stack_size (whole regs.now flags) }
@@ -27,6 +28,7 @@ pub fn stack_size(regs: &Regs) -> Size
 }
 
 /// The stack pointer.
+#[inline(always)]
 pub fn stack_top(regs: &Regs) -> u32
     ensures { (flags : ℕ) → result ≡ stack_top (whole regs.now flags) }
 {
@@ -34,6 +36,7 @@ pub fn stack_top(regs: &Regs) -> u32
 }
 
 /// So many bytes above the stack pointer, to which a pop moves it.
+#[inline(always)]
 pub fn above_top(regs: &Regs, bytes: u32) -> u32
     ensures value { (flags : ℕ) → result ≡ above_top (whole regs.now flags) bytes }
     ensures bound { result < bound_of (stack_size regs.now) }
@@ -42,6 +45,7 @@ pub fn above_top(regs: &Regs, bytes: u32) -> u32
 }
 
 /// So many bytes below the stack pointer, to which a push moves it.
+#[inline(always)]
 pub fn below_top(regs: &Regs, bytes: u32) -> u32
     requires { bytes ≤ 2 ^ 16 }
     ensures value { (flags : ℕ) → result ≡ below_top (whole regs.now flags) bytes }
@@ -52,6 +56,7 @@ pub fn below_top(regs: &Regs, bytes: u32) -> u32
 }
 
 /// Sets the stack pointer.
+#[inline(always)]
 pub fn set_top(regs: &mut Regs, top: u32)
     requires { top < bound_of (stack_size regs.old) }
     ensures value { (flags : ℕ) → whole regs.new flags ≡ with_top (whole regs.old flags) top }
@@ -62,6 +67,7 @@ pub fn set_top(regs: &mut Regs, top: u32)
 
 /// PUSH of a number. The stack pointer moves after the last check.
 #[tactic(auto, using(mdl_state::specs::Rules::attempts), unfolding(mdl_cpu::specs::Stack::push_plan))]
+#[inline(always)]
 pub fn push<L: Linear>(regs: &mut Regs, lin: &mut L, size: Size, value: u32) -> Result<(), Fault>
     requires bound { value < bound_of size }
     requires room { HasRoom (L.seen lin.old) (bytes_of size) }
@@ -81,6 +87,7 @@ pub fn push<L: Linear>(regs: &mut Regs, lin: &mut L, size: Size, value: u32) -> 
 
 /// POP of a number.
 #[tactic(auto, using(mdl_state::specs::Rules::attempts), unfolding(mdl_cpu::specs::Stack::pop_plan))]
+#[inline(always)]
 pub fn pop<L: Linear>(regs: &mut Regs, lin: &mut L, size: Size) -> Result<u32, Fault>
     ensures run { (flags : ℕ) → (popped result (whole regs.new flags), L.seen lin.new)
         ≡ tried (by_pick L.pick) 0 (pop_plan (whole regs.old flags) size) (L.seen lin.old) }
