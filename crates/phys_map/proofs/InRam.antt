@@ -137,5 +137,19 @@ conventional p at h =
     low : (size at : ℕ) → at < 0xA0000 → is_ram size at ≡ true
     low size at h = grind arith
 
+pub loaded_conventional : (p : Physical) (at : ℕ) (size : Size) → at + bytes_of size ≤ 0xA0000 → loaded p at size ≡ number_at p.ram at size
+unfolding loaded
+loaded_conventional p at B1 low = let first : byte_at p at ≡ slice_index p.ram at = conventional p at (omega (arith, low)) in omega arith
+loaded_conventional p at B2 low =
+    let first : byte_at p at ≡ slice_index p.ram at = conventional p at (omega (arith, low)) in
+    let second : byte_at p (at + 1) ≡ slice_index p.ram (at + 1) = conventional p (at + 1) (omega (arith, low)) in
+    omega arith
+loaded_conventional p at B4 low =
+    let first : byte_at p at ≡ slice_index p.ram at = conventional p at (omega (arith, low)) in
+    let second : byte_at p (at + 1) ≡ slice_index p.ram (at + 1) = conventional p (at + 1) (omega (arith, low)) in
+    let third : byte_at p (at + 2) ≡ slice_index p.ram (at + 1 + 1) = rw (two at) (conventional p (at + 2) (omega (arith, low))) in
+    let fourth : byte_at p (at + 3) ≡ slice_index p.ram (at + 1 + 1 + 1) = rw (three at) (conventional p (at + 3) (omega (arith, low))) in
+    omega arith
+
 pub some_ram : (p : Physical) → IsSound p → 0xA0000 ≤ length p.ram
 some_ram p sound = let least : 0x100000 ≤ length p.ram = sound.ram.least in omega arith

@@ -1,7 +1,7 @@
 //! Numbers in physical memory.
 
-ghost use Rattle.std.specs.Prelude.{◌≡◌, ◌<◌};
-ghost use Rattle.mdl_state.specs.Bytes.{bound_of};
+ghost use Rattle.std.specs.Prelude.{◌≡◌, ◌+◌, ◌<◌, ◌≤◌};
+ghost use Rattle.mdl_state.specs.Bytes.{bytes_of, bound_of};
 ghost use Rattle.mdl_state.specs.Accesses.{KeepsPhysical};
 ghost use Rattle.mem_iface.specs.Numbers.{loaded, stored, InPage};
 
@@ -11,6 +11,18 @@ use mdl_state::Size;
 use mem_iface::Phys;
 
 impl PhysMap {
+    /// A number that lies whole below A0000h. Bit 20 of these addresses is 0, so the line A20 changes
+    /// none.
+    #[inline(always)]
+    #[tactic(auto, using(crate::proofs::InRam::loaded_conventional, crate::proofs::InRam::some_ram))]
+    pub fn load_conventional(&self, at: u32, size: Size) -> u32
+        requires { at + bytes_of size ≤ 0xA0000 }
+        ensures value { result ≡ loaded self.now at size }
+        ensures bound { result < bound_of size }
+    {
+        self.ram.load(at, size)
+    }
+
     /// A number byte by byte.
     #[inline(never)]
     #[tactic(auto, unfolding(mem_iface::specs::Numbers::loaded))]
@@ -58,6 +70,7 @@ impl Phys for PhysMap {
     ghost seen = { λ m. m };
 
     /// A page that has RAM has nothing else.
+    #[inline(always)]
     #[tactic(auto, using(crate::proofs::InRam::loaded_ram, crate::proofs::InRam::ram_fits))]
     fn load(&self, at: u32, size: Size) -> u32 {
         let out = gated(self.a20, at);
@@ -67,6 +80,7 @@ impl Phys for PhysMap {
         self.load_bytes(at, size)
     }
 
+    #[inline(always)]
     #[tactic(auto, using(crate::proofs::InRam::stored_ram, crate::proofs::InRam::ram_fits, crate::proofs::InRam::stored_sound))]
     fn store(&mut self, at: u32, size: Size, value: u32) {
         let out = gated(self.a20, at);

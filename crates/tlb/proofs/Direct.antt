@@ -13,8 +13,9 @@ use Rattle.mdl_state.specs.Memory.{byte_at}
 use Rattle.mdl_state.specs.declared.Watch.{Watch}
 use Rattle.mdl_state.specs.Watches.{hits_after, noted}
 use Rattle.mdl_state.specs.Serving.{Outcome, Serve, Passed, on}
-use Rattle.mdl_state.specs.Accesses.{translated, got, got_from, held_at, read_at, written_at, bytes_here}
+use Rattle.mdl_state.specs.Accesses.{translated, got, got_from, seen_byte, byte_place, held_at, read_at, written_at, bytes_here}
 use Rattle.mem_iface.specs.Numbers.{loaded}
+use Rattle.tlb.specs.Direct.{IsDirect}
 use Rattle.tlb.proofs.Holding.{whole_got}
 
 here : (lin : ℕ) (size : Size) → lin % 0x1000 + 4 ≤ 0x1000 → bytes_here lin size ≡ bytes_of size
@@ -25,6 +26,9 @@ here lin B4 h = omega (arith, h)
 first : {R : Type 0} (b : Bool) (x y : R) → b ≡ false → (if not b then x else y) ≡ x
 first false x y h = refl
 first true x y h = cc
+
+none_more : (lin : ℕ) → lin + 0 ≡ lin
+none_more lin = omega arith
 
 -- with paging off an access lies where its address says
 unpaged : Mem → ℕ → Size → Place
@@ -47,6 +51,39 @@ read_here serve m lin size who value off clear none whole v =
 
 pub direct_read : (serve : Serve) (m : Mem) (lin : ℕ) (size : Size) (who : Who) (value : ℕ) → m.paging ≡ false → m.watch ≡ [] → m.held ≡ [] → lin % 0x1000 + 4 ≤ 0x1000 → value ≡ loaded m.physical lin size → (Passed value, m) ≡ read_at serve m lin size who
 direct_read serve m lin size who value off clear none page v = read_here serve m lin size who value off clear none (here lin size page) v
+
+-- a byte of an access of conventional memory stands so far from its address, on either page
+in_place : (m : Mem) (lin n : ℕ) (size : Size) → lin + 8 ≤ 0xA0000 → n < bytes_of size → byte_place (unpaged m lin size) n ≡ lin + n
+unfolding unpaged
+in_place m lin n B1 low below = grind (arith, low, below)
+in_place m lin n B2 low below = grind (arith, low, below)
+in_place m lin n B4 low below = grind (arith, low, below)
+
+low_got : (m : Mem) (p : Physical) (lin : ℕ) (size : Size) → lin + 8 ≤ 0xA0000 → got_from p [] (unpaged m lin size) size ≡ loaded p lin size
+unfolding got_from loaded seen_byte
+low_got m p lin B1 low = ap (byte_at p) (in_place m lin 0 B1 low (omega arith) ∙ omega arith)
+low_got m p lin B2 low = rw (in_place m lin 0 B2 low (omega arith)) (rw (in_place m lin 1 B2 low (omega arith)) (rw (none_more lin) refl))
+low_got m p lin B4 low = rw (in_place m lin 0 B4 low (omega arith)) (rw (in_place m lin 1 B4 low (omega arith)) (rw (in_place m lin 2 B4 low (omega arith)) (rw (in_place m lin 3 B4 low (omega arith)) (rw (none_more lin) refl))))
+
+pub low_read : (serve : Serve) (m : Mem) (lin : ℕ) (size : Size) (who : Who) (value : ℕ) → m.paging ≡ false → m.watch ≡ [] → m.held ≡ [] → lin + 8 ≤ 0xA0000 → value ≡ loaded m.physical lin size → (Passed value, m) ≡ read_at serve m lin size who
+unfolding read_at
+low_read serve m lin size who value off clear none low v =
+    ap (λ (n : ℕ). (Passed n, m)) (v ∙ sym (low_got m m.physical lin size low)
+    ∙ ap (λ (held : List (ℕ × ℕ)). got_from m.physical held (unpaged m lin size) size) (sym none))
+    ∙ sym (ap (λ (w : Outcome Place × Mem). on w (λ place n. (Passed (got n place size), n))) (translated_off serve m lin size (Read who) off clear))
+
+-- what holds below the address up to which an access is of conventional memory as it stands
+pub direct_off : (direct at : ℕ) (paging : Bool) (held : List (ℕ × ℕ)) → IsDirect direct paging held → at < direct → paging ≡ false
+direct_off direct at paging held is below = is.unpaged (omega (arith, below))
+
+pub direct_none : (direct at : ℕ) (paging : Bool) (held : List (ℕ × ℕ)) → IsDirect direct paging held → at < direct → held ≡ []
+direct_none direct at paging held is below = is.empty (omega (arith, below))
+
+pub direct_low : (direct at : ℕ) (paging : Bool) (held : List (ℕ × ℕ)) → IsDirect direct paging held → at < direct → at + 8 ≤ 0xA0000
+direct_low direct at paging held is below = omega (arith, is.low, below)
+
+pub nothing_held : (direct : ℕ) (paging : Bool) (held : List (ℕ × ℕ)) → IsDirect direct paging held → (direct ≡ 0 → ⊥) → held ≡ []
+nothing_held direct paging held is some = is.empty (omega (arith, some))
 
 -- eight bytes of physical memory are those that are read
 pub near_read : (serve : Serve) (m : Mem) (lin : ℕ) (who : Who) (word : ℕ) → m.paging ≡ false → m.watch ≡ [] → m.held ≡ [] → lin + 8 ≤ 2 ^ 32

@@ -1,5 +1,5 @@
 -- Laws of held writes, and of the bytes that they hold.
-use Rattle.std.specs.Prelude.{ℕ, zero, suc, ◌≡◌, ◌≤◌, ◌<◌, ◌+◌, ◌==◌, Bool, refl, if◌then◌else◌, List, [], ◌∷◌, ◌++◌, length}
+use Rattle.std.specs.Prelude.{ℕ, zero, suc, ◌≡◌, ◌≤◌, ◌<◌, ◌+◌, ◌==◌, Bool, refl, if◌then◌else◌, Option, Some, None, List, [], ◌∷◌, ◌++◌, length}
 use Rattle.std.specs.List.{All}
 use Rattle.std.proofs.lemmas.List.Elements.{All-append}
 use Rattle.std.proofs.Common.{arith, drop, drop-cons, get_or, ap, subst, sym, ◌∙◌, append_assoc, length-append}
@@ -8,11 +8,11 @@ use Rattle.mdl_state.specs.declared.Size.TheVariants.{B1, B2, B4}
 use Rattle.mdl_state.specs.declared.Place.{Place}
 use Rattle.mdl_state.specs.State.{Physical}
 use Rattle.mdl_state.specs.Bytes.{bytes_of}
-use Rattle.mdl_state.specs.Memory.{gated, placed}
+use Rattle.mdl_state.specs.Memory.{gated, placed, byte_at}
 use Rattle.mdl_state.specs.Accesses.{byte_place, newest, seen_byte, got_from, held_bytes, all_placed}
 use Rattle.mem_iface.specs.Numbers.{loaded, stored}
 use Rattle.tlb.specs.declared.writes.HeldWrite.{HeldWrite}
-use Rattle.tlb.specs.Held.{place_of, write_bytes, bytes_held, IsHeldWrite, IsHeld}
+use Rattle.tlb.specs.Held.{place_of, write_bytes, bytes_held, writes_of, IsHeldWrite, IsHeld, IsLater}
 
 pub length-held_bytes : (place : Place) (size : Size) (value : ℕ) → length (held_bytes place size value) ≡ bytes_of size
 unfolding held_bytes
@@ -107,3 +107,60 @@ more_held writes next write bytes more h w room n m = subst (λ (ws : List HeldW
 -- and its bytes
 pub more_bytes : (writes next : List HeldWrite) (write : HeldWrite) → next ≡ writes ++ write ∷ [] → bytes_held next ≡ bytes_held writes ++ write_bytes write
 more_bytes writes next write n = ap bytes_held n ∙ bytes_held-more writes write
+
+-- a write more is the last, whether it is the oldest or comes later
+pub next_later : (o : Option HeldWrite) (w x : HeldWrite) (ws next : List HeldWrite) → o ≡ Some w → next ≡ ws ++ x ∷ [] → writes_of o next ≡ writes_of o ws ++ x ∷ []
+next_later o w x ws next is e = subst (λ (p : Option HeldWrite). writes_of p next ≡ writes_of p ws ++ x ∷ []) (sym is) (ap (λ (ys : List HeldWrite). w ∷ ys) e)
+
+pub next_oldest : (o : Option HeldWrite) (x : HeldWrite) (ws : List HeldWrite) → o ≡ None → IsLater o ws → x ∷ ws ≡ writes_of o ws ++ x ∷ []
+next_oldest o x ws is none =
+    let empty : ws ≡ [] = subst (λ (p : Option HeldWrite). IsLater p ws) is none in
+    subst (λ (p : Option HeldWrite). x ∷ ws ≡ writes_of p ws ++ x ∷ []) (sym is) (subst (λ (ys : List HeldWrite). x ∷ ys ≡ ys ++ x ∷ []) (sym empty) refl)
+
+later_all : (w : HeldWrite) (ws : List HeldWrite) → All IsHeldWrite (w ∷ ws) → All IsHeldWrite ws
+later_all w ws h = λ k d below. h (suc k) d (omega (arith, below))
+
+-- the writes behind the oldest
+pub all_later : (o : Option HeldWrite) (w : HeldWrite) (ws slice : List HeldWrite) (bytes : ℕ) → IsHeld (writes_of o ws) bytes → o ≡ Some w → slice ≡ ws → All IsHeldWrite slice
+all_later o w ws slice bytes h is same = subst (All IsHeldWrite) (sym same) (later_all w ws (subst (λ (p : Option HeldWrite). All IsHeldWrite (writes_of p ws)) is h.each))
+
+pub both_placed : (o : Option HeldWrite) (w : HeldWrite) (ws slice : List HeldWrite) (p q r : Physical) (held : List (ℕ × ℕ)) → o ≡ Some w → slice ≡ ws → q ≡ all_placed p (write_bytes w) → r ≡ all_placed q (bytes_held slice) → bytes_held (writes_of o ws) ≡ held → r ≡ all_placed p held
+both_placed o w ws slice p q r held is same first rest view =
+    rest ∙ ap (λ (x : Physical). all_placed x (bytes_held slice)) first
+    ∙ ap (λ (xs : List HeldWrite). all_placed (all_placed p (write_bytes w)) (bytes_held xs)) same
+    ∙ sym (all_placed-append p (write_bytes w) (bytes_held ws))
+    ∙ ap (λ (x : Option HeldWrite). all_placed p (bytes_held (writes_of x ws))) (sym is)
+    ∙ ap (all_placed p) view
+
+pub both_seen : (p : Physical) (o : Option HeldWrite) (w : HeldWrite) (ws slice : List HeldWrite) (out here first result at : ℕ) (held : List (ℕ × ℕ)) → o ≡ Some w → slice ≡ ws → out ≡ gated p.a20 at → here ≡ byte_at p at
+    → first ≡ newest p.a20 (write_bytes w) out here → result ≡ newest p.a20 (bytes_held slice) out first → bytes_held (writes_of o ws) ≡ held → result ≡ seen_byte p held at
+unfolding seen_byte
+both_seen p o w ws slice out here first result at held is same gate byte one rest view =
+    rest ∙ ap (newest p.a20 (bytes_held slice) out) one
+    ∙ ap (λ (xs : List HeldWrite). newest p.a20 (bytes_held xs) out (newest p.a20 (write_bytes w) out here)) same
+    ∙ sym (newest-append p.a20 (write_bytes w) (bytes_held ws) out here)
+    ∙ ap (λ (x : Option HeldWrite). newest p.a20 (bytes_held (writes_of x ws)) out here) (sym is)
+    ∙ ap (λ (xs : List (ℕ × ℕ)). newest p.a20 xs out here) view
+    ∙ ap (λ (n : ℕ). newest p.a20 held n here) gate
+    ∙ ap (newest p.a20 held (gated p.a20 at)) byte
+
+pub none_seen : (p : Physical) (o : Option HeldWrite) (ws : List HeldWrite) (here at : ℕ) (held : List (ℕ × ℕ)) → o ≡ None → IsLater o ws → here ≡ byte_at p at → bytes_held (writes_of o ws) ≡ held → here ≡ seen_byte p held at
+unfolding seen_byte
+none_seen p o ws here at held is none byte view =
+    let empty : ws ≡ [] = subst (λ (x : Option HeldWrite). IsLater x ws) is none in
+    let nothing : held ≡ [] = sym view ∙ ap (λ (x : Option HeldWrite). bytes_held (writes_of x ws)) is ∙ ap bytes_held empty in
+    byte ∙ ap (λ (xs : List (ℕ × ℕ)). newest p.a20 xs (gated p.a20 at) (byte_at p at)) (sym nothing)
+
+append_none : (xs : List (ℕ × ℕ)) → xs ++ [] ≡ xs
+append_none [] = refl
+append_none (x ∷ xs) = ap (λ (ys : List (ℕ × ℕ)). x ∷ ys) (append_none xs)
+
+-- the oldest write, where none came later
+pub only_bytes : (o : Option HeldWrite) (w : HeldWrite) (ws : List HeldWrite) → o ≡ Some w → ws ≡ [] → bytes_held (writes_of o ws) ≡ write_bytes w
+only_bytes o w ws is none =
+    ap (λ (p : Option HeldWrite). bytes_held (writes_of p ws)) is ∙ ap (λ (xs : List HeldWrite). write_bytes w ++ bytes_held xs) none ∙ append_none (write_bytes w)
+
+pub only_held : (o : Option HeldWrite) (w : HeldWrite) (ws : List HeldWrite) (bytes : ℕ) → IsHeld (writes_of o ws) bytes → o ≡ Some w → IsHeldWrite w
+only_held o w ws bytes h is =
+    let each : All IsHeldWrite (w ∷ ws) = subst (λ (p : Option HeldWrite). All IsHeldWrite (writes_of p ws)) is h.each in
+    each 0 w (omega arith)

@@ -1,5 +1,5 @@
 -- Held writes, each whole: its place, its size and its value. Own: Writes of an instruction are held.
-use Rattle.std.specs.Prelude.{ℕ, ◌≡◌, ◌≤◌, ◌<◌, List, [], ◌∷◌, ◌++◌, length}
+use Rattle.std.specs.Prelude.{ℕ, ◌≡◌, ◌≤◌, ◌<◌, ⊤, Option, Some, None, List, [], ◌∷◌, ◌++◌, length}
 use Rattle.std.specs.List.{All}
 use Rattle.mdl_state.specs.declared.Place.{Place}
 use Rattle.mdl_state.specs.Bytes.{bound_of}
@@ -29,3 +29,13 @@ pub record IsHeld (writes : List HeldWrite) (bytes : ℕ) : Type 0 where
   pub each : All IsHeldWrite writes
   pub count : bytes ≡ length (bytes_held writes)
   pub room : bytes ≤ held_room
+
+-- the oldest write and those behind it, in order
+abbrev pub writes_of : Option HeldWrite → List HeldWrite → List HeldWrite
+writes_of None later = later
+writes_of (Some oldest) later = oldest ∷ later
+
+-- none is behind where there is none
+abbrev pub IsLater : Option HeldWrite → List HeldWrite → Type 0
+IsLater None later = later ≡ []
+IsLater (Some oldest) later = ⊤

@@ -1,11 +1,12 @@
 //! The writes that are held.
 
-ghost use Rattle.std.specs.Prelude.{◌≡◌, ◌+◌, ◌-◌, ◌<◌, ◌≤◌, ◌++◌, [], length};
+ghost use Rattle.std.specs.Prelude.{◌≡◌, ◌+◌, ◌-◌, ◌<◌, ◌≤◌, ◌++◌, ◌∷◌, [], length, IfSome};
 ghost use Rattle.std.specs.Bool.{OnTrue};
 ghost use Rattle.mdl_state.specs.Bytes.{bytes_of, bound_of};
 ghost use Rattle.mdl_state.specs.Accesses.{KeepsPhysical, IsPlace, seen_byte, got_from, held_bytes, held_room, all_placed};
+ghost use Rattle.tlb.specs.Held.{write_bytes, IsHeldWrite};
 
-use crate::writes::{HeldWrite, byte_place, put_all, seen_byte};
+use crate::writes::{HeldWrite, byte_place, newest_of, put_all};
 use arrayvec::ArrayVec;
 use mdl_state::{Place, Size};
 use mem_iface::bytes_of;
@@ -15,22 +16,33 @@ use std::marker::Model;
 /// How many bytes may be held.
 const ROOM: u16 = 256;
 
-/// Held writes, the oldest first, seen as the list of their bytes.
+/// A write behind the oldest.
+#[inline(never)]
+fn push(later: &mut ArrayVec<HeldWrite, 256>, write: HeldWrite)
+    requires { length later.old.items < 256 }
+    ensures { later.new.items ≡ later.old.items ++ write ∷ [] }
+{
+    later.push(write);
+}
+
+/// Held writes, seen as the list of their bytes. Most instructions hold one at most: the oldest stands
+/// before the list of those that came later.
 #[derive(Drop)]
 pub(crate) struct Held {
-    writes: ArrayVec<HeldWrite, 256>,
+    oldest: Option<HeldWrite>,
+    later: ArrayVec<HeldWrite, 256>,
     bytes: u16,
 }
 
 impl Model for Held {
     ghost use Rattle.std.specs.Prelude.{ℕ, List};
-    ghost use Rattle.tlb.specs.Held.{bytes_held, IsHeld};
+    ghost use Rattle.tlb.specs.Held.{bytes_held, writes_of, IsHeld, IsLater};
 
     ghost Value = { List (ℕ × ℕ) };
 
-    ghost view = { λ h. bytes_held h.writes.items };
+    ghost view = { λ h. bytes_held (writes_of h.oldest h.later.items) };
 
-    ghost invariant = { λ h. IsHeld h.writes.items h.bytes };
+    ghost invariant = { λ h. IsHeld (writes_of h.oldest h.later.items) h.bytes × IsLater h.oldest h.later.items };
 }
 
 impl Held {
@@ -38,15 +50,20 @@ impl Held {
         ensures { result ≡ [] }
     {
         Held {
-            writes: ArrayVec::new(),
+            oldest: None,
+            later: ArrayVec::new(),
             bytes: 0,
         }
     }
 
+    #[inline(always)]
     pub(crate) fn is_empty(&self) -> bool
         ensures { OnTrue result (self.now ≡ []) }
     {
-        self.writes.is_empty()
+        match self.oldest {
+            Some(_) => false,
+            None => true,
+        }
     }
 
     /// How many bytes more may be held.
@@ -56,6 +73,7 @@ impl Held {
         ROOM - self.bytes
     }
 
+    #[inline(always)]
     #[tactic(auto, using(crate::proofs::Holding::writes_fit))]
     pub(crate) fn hold(&mut self, place: Place, size: Size, value: u32)
         requires place { IsPlace place size }
@@ -64,30 +82,65 @@ impl Held {
         ensures held { self.new ≡ self.old ++ held_bytes place size value }
         ensures room { length self.new ≡ length self.old + bytes_of size }
     {
-        self.writes.push(HeldWrite::new(place, size, value));
+        let write = HeldWrite::new(place, size, value);
         self.bytes += bytes_of(size) as u16;
+        match self.oldest {
+            Some(_) => push(&mut self.later, write),
+            None => self.oldest = Some(write),
+        }
+    }
+
+    /// The only write that is held, where there is one.
+    #[inline(always)]
+    #[tactic(auto, using(crate::proofs::Holding::only_bytes, crate::proofs::Holding::only_held))]
+    pub(crate) fn only(&self) -> Option<HeldWrite>
+        ensures bytes { IfSome result (λ write. self.now ≡ write_bytes write) }
+        ensures form { IfSome result (λ write. IsHeldWrite write) }
+    {
+        match self.oldest {
+            Some(write) if self.later.is_empty() => Some(write),
+            _ => None,
+        }
     }
 
     /// Places what is held, in order.
+    #[inline(always)]
     pub(crate) fn put(&self, phys: &mut PhysMap)
         ensures placed { phys.new ≡ all_placed phys.old self.now }
         ensures keeps { KeepsPhysical phys.old phys.new }
     {
-        put_all(self.writes.as_slice(), phys);
+        if let Some(write) = &self.oldest {
+            write.put(phys);
+            if !self.later.is_empty() {
+                put_all(self.later.as_slice(), phys);
+            }
+        }
     }
 
+    #[inline(always)]
     pub(crate) fn clear(&mut self)
         ensures { self.new ≡ [] }
     {
-        self.writes.clear();
+        self.oldest = None;
         self.bytes = 0;
+        if !self.later.is_empty() {
+            self.later.clear();
+        }
     }
 
     /// The byte at a physical address, under what is held.
     fn seen_byte(&self, phys: &PhysMap, at: u32) -> u8
         ensures { result ≡ seen_byte phys.now self.now at }
     {
-        seen_byte(self.writes.as_slice(), phys, at)
+        let out = phys.gated(at);
+        let byte = phys.byte(at);
+        match &self.oldest {
+            Some(write) => {
+                let byte = write.newest(phys, out, byte);
+                newest_of(self.later.as_slice(), phys, out, byte)
+            }
+            None => byte,
+        }
     }
 
     /// The number that is seen at a place.

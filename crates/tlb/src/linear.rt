@@ -6,11 +6,11 @@ ghost use Rattle.mdl_state.specs.declared.Size.TheVariants.{B1};
 ghost use Rattle.mdl_state.specs.declared.Who.{Who};
 ghost use Rattle.mdl_state.specs.Bytes.{bytes_of, bound_of};
 ghost use Rattle.mdl_state.specs.Serving.{by_pick, outcome, Passed};
-ghost use Rattle.mdl_state.specs.Accesses.{translated, got, read_at, written_at, bytes_here, Keeps, IsPlace, HasRoom};
+ghost use Rattle.mdl_state.specs.Accesses.{translated, got, read_at, written_at, committed, bytes_here, Keeps, IsPlace, HasRoom};
 ghost use Rattle.mdl_state.specs.Policy.{plain_item, meets_plain};
 ghost use Rattle.mdl_state.specs.PolicyLaws.{plain_item_meets};
 
-use crate::machine::Tlb;
+use crate::machine::{DIRECT_END, Tlb};
 use crate::translation::{PAGE, unpaged};
 use mdl_state::{Access, Fault, Place, Size, Who};
 use mem_iface::{Linear, Phys, bytes_of};
@@ -18,19 +18,19 @@ use mem_iface::{Linear, Phys, bytes_of};
 /// The last place in a page at which every access lies whole.
 const LAST_WHOLE: u32 = PAGE - 4;
 
-/// The last address of eight bytes of conventional memory.
-const LAST_EIGHT: u32 = 0xA0000 - 8;
-
 impl Tlb {
-    /// A read by its place.
+    /// A read by its place, where it is none of conventional memory as it stands.
     #[inline(never)]
-    #[tactic(auto, unfolding(mdl_state::specs::Accesses::read_at))]
-    fn read_place(&mut self, lin: u32, size: Size, who: Who) -> Result<u32, Fault>
+    #[tactic(auto, using(crate::proofs::Direct::direct_read), unfolding(mdl_state::specs::Accesses::read_at))]
+    fn read_far(&mut self, lin: u32, size: Size, who: Who) -> Result<u32, Fault>
         ensures value { (outcome result, self.new) ≡ read_at (by_pick plain_item) self.old lin size who }
         ensures bound { IfOk result (λ value. value < bound_of size) }
         ensures keeps { Keeps self.old self.new }
         ensures held { self.new.held ≡ self.old.held }
     {
+        if self.is_direct(lin) {
+            return Ok(self.phys.load(lin, size));
+        }
         let place = self.translate(lin, size, Access::Read(who))?;
         Ok(self.get(place, size))
     }
@@ -62,12 +62,58 @@ impl Tlb {
 
     /// Whether eight bytes are those of conventional memory as it stands.
     #[inline(always)]
+    #[tactic(auto, using(crate::proofs::Direct::direct_off, crate::proofs::Direct::direct_none, crate::proofs::Direct::direct_low))]
     fn is_near(&self, lin: u32) -> bool
         ensures paging { OnTrue result (self.now.paging ≡ false) }
         ensures held { OnTrue result (self.now.held ≡ []) }
         ensures low { OnTrue result (lin + 8 ≤ 0xA0000) }
     {
-        lin <= LAST_EIGHT && self.is_plain()
+        lin < self.direct
+    }
+
+    /// The number that is seen at a place, where it is none of conventional memory as it stands.
+    #[inline(never)]
+    #[tactic(auto, using(crate::proofs::Holding::whole_got))]
+    fn get_far(&self, place: Place, size: Size) -> u32
+        requires { IsPlace place size }
+        ensures value { result ≡ got self.now place size }
+        ensures bound { result < bound_of size }
+    {
+        if u32::from(place.cut) == bytes_of(size) && self.held.is_empty() {
+            return self.phys.load(place.first, size);
+        }
+        self.held.got(&self.phys, place, size)
+    }
+
+    /// Places what is held, in order.
+    #[inline(never)]
+    #[tactic(auto, unfolding(mdl_state::specs::Accesses::committed))]
+    fn place_all(&mut self)
+        ensures placed { self.new ≡ committed self.old }
+        ensures keeps { Keeps self.old self.new }
+        ensures held { self.new.held ≡ [] }
+    {
+        self.held.put(&mut self.phys);
+        self.held.clear();
+        self.direct = if self.paging { 0 } else { DIRECT_END };
+    }
+
+    /// Places what is held, which mostly is one write. That is put last, so that nothing is kept over a call.
+    #[inline(never)]
+    #[tactic(auto, unfolding(mdl_state::specs::Accesses::committed))]
+    fn place_held(&mut self)
+        ensures placed { self.new ≡ committed self.old }
+        ensures keeps { Keeps self.old self.new }
+        ensures held { self.new.held ≡ [] }
+    {
+        match self.held.only() {
+            Some(write) => {
+                self.held.clear();
+                self.direct = if self.paging { 0 } else { DIRECT_END };
+                write.put(&mut self.phys);
+            }
+            None => self.place_all(),
+        }
     }
 
     /// The eight bytes from an address on, of one page of physical memory as it stands: code of the ROM,
@@ -102,6 +148,7 @@ impl Linear for Tlb {
 
     ghost meets = { plain_item_meets };
 
+    #[inline(always)]
     #[tactic(auto, unfolding(mdl_state::specs::Accesses::translated))]
     fn translate(&mut self, lin: u32, size: Size, access: Access) -> Result<Place, Fault> {
         if self.paging {
@@ -110,24 +157,29 @@ impl Linear for Tlb {
         Ok(unpaged(lin, size))
     }
 
+    #[inline(always)]
     #[tactic(auto, using(crate::proofs::Holding::whole_got))]
     fn get(&self, place: Place, size: Size) -> u32 {
-        if u32::from(place.cut) == bytes_of(size) && self.held.is_empty() {
-            return self.phys.load(place.first, size);
+        if u32::from(place.cut) == bytes_of(size) && self.is_near(place.first) {
+            return self.phys.load_conventional(place.first, size);
         }
-        self.held.got(&self.phys, place, size)
+        self.get_far(place, size)
     }
 
+    #[inline(always)]
     fn hold(&mut self, place: Place, size: Size, value: u32) {
+        self.direct = 0;
         self.held.hold(place, size, value);
     }
 
-    #[tactic(auto, using(crate::proofs::Direct::direct_read))]
+    #[inline(always)]
+    #[tactic(auto, using(crate::proofs::Direct::low_read))]
     fn read(&mut self, lin: u32, size: Size, who: Who) -> Result<u32, Fault> {
-        if self.is_direct(lin) {
-            return Ok(self.phys.load(lin, size));
+        if self.is_near(lin) {
+            return Ok(self.phys.load_conventional(lin, size));
         }
-        self.read_place(lin, size, who)
+        let value = self.read_far(lin, size, who)?;
+        Ok(value)
     }
 
     #[inline(always)]
@@ -138,12 +190,13 @@ impl Linear for Tlb {
         self.ahead(lin)
     }
 
+    #[inline(always)]
     #[tactic(auto, using(crate::proofs::Direct::direct_write))]
     fn write(&mut self, lin: u32, size: Size, value: u32, who: Who) -> Result<(), Fault> {
         if self.paging {
             return self.write_place(lin, size, value, who);
         }
-        self.held.hold(unpaged(lin, size), size, value);
+        self.hold(unpaged(lin, size), size, value);
         Ok(())
     }
 
@@ -152,19 +205,19 @@ impl Linear for Tlb {
     }
 
     #[inline(always)]
-    #[tactic(auto, unfolding(mdl_state::specs::Accesses::committed))]
+    #[tactic(auto, using(crate::proofs::Direct::nothing_held), unfolding(mdl_state::specs::Accesses::committed))]
     fn commit(&mut self) {
-        if self.held.is_empty() {
+        if self.direct != 0 || self.held.is_empty() {
             return;
         }
-        self.held.put(&mut self.phys);
-        self.held.clear();
+        self.place_held();
     }
 
     #[tactic(auto, unfolding(mdl_state::specs::Accesses::discarded))]
     fn discard(&mut self) {
         if !self.held.is_empty() {
             self.held.clear();
+            self.direct = if self.paging { 0 } else { DIRECT_END };
         }
     }
 
@@ -174,6 +227,11 @@ impl Linear for Tlb {
 
     fn set_paging(&mut self, on: bool) {
         self.paging = on;
+        self.direct = if on || !self.held.is_empty() {
+            0
+        } else {
+            DIRECT_END
+        };
     }
 
     fn set_a20(&mut self, on: bool) {

@@ -3,7 +3,7 @@
 ghost use Rattle.std.specs.Prelude.{◌≡◌, ◌<◌, ◌^◌, ◌==◌, if◌then◌else◌};
 ghost use Rattle.std.specs.List.{All};
 ghost use Rattle.mdl_state.specs.Memory.{gated, placed};
-ghost use Rattle.mdl_state.specs.Accesses.{KeepsPhysical, byte_place, newest, seen_byte, held_bytes, all_placed};
+ghost use Rattle.mdl_state.specs.Accesses.{KeepsPhysical, byte_place, newest, held_bytes, all_placed};
 ghost use Rattle.tlb.specs.Held.{place_of, write_bytes, bytes_held, IsHeldWrite};
 
 use mdl_state::{Place, Size};
@@ -174,14 +174,12 @@ pub(crate) fn put_all(writes: &[HeldWrite], phys: &mut PhysMap)
     }
 }
 
-/// The byte at a physical address, under these writes.
-#[tactic(auto, unfolding(mdl_state::specs::Accesses::seen_byte))]
-pub(crate) fn seen_byte(writes: &[HeldWrite], phys: &PhysMap, at: u32) -> u8
+/// What is seen at an address that leaves the processor under these writes, where this was seen before.
+pub(crate) fn newest_of(writes: &[HeldWrite], phys: &PhysMap, out: u32, here: u8) -> u8
     requires { All IsHeldWrite writes.now }
-    ensures { result ≡ seen_byte phys.now (bytes_held writes.now) at }
+    ensures { result ≡ newest phys.now.a20 (bytes_held writes.now) out here }
 {
-    let out = phys.gated(at);
-    let mut byte = phys.byte(at);
+    let mut byte = here;
     for write in writes {
         byte = write.newest(phys, out, byte);
     }
