@@ -1,3 +1,4 @@
+pub mod Arithmetic
 pub mod Modes
 pub mod Breakpoints
 pub mod Rows

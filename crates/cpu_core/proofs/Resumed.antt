@@ -1,13 +1,14 @@
 -- RF stands beside the kept status flags.
-use Rattle.std.proofs.Common.{◌≡◌, ◌≢◌, ℕ, ◌<◌, true, false, inl, inr, refl, sym, ◌∙◌, ap, arith}
-use Rattle.std.specs.Int.{from_bool}
+use Rattle.std.proofs.Common.{◌≡◌, ◌≢◌, ℕ, ◌<◌, Bool, true, false, inl, inr, refl, sym, ◌∙◌, ap, arith}
+use Rattle.std.specs.Int.{bit_at, from_bool}
 use Rattle.std.proofs.lemmas.Bool.{cases_eq}
-use Rattle.std.proofs.lemmas.Nat.Bits.{same_from_bits}
+use Rattle.std.proofs.lemmas.Nat.Bits.{same_from_bits, bit_at-lt}
 use Rattle.mdl_state.specs.declared.Regs.{Regs}
 use Rattle.mdl_state.specs.declared.Next.{Next}
+use Rattle.mdl_state.specs.Bytes.{bit}
 use Rattle.mdl_num.specs.Flags.{is_set, with_bit}
 use Rattle.mdl_num.specs.declared.status.TheConstants.{CF, PF, AF, ZF, SF, OF}
-use Rattle.mdl_num.proofs.Places.{bit_at-with_bit, bit_at-with_bit_other, from_bool-lt}
+use Rattle.mdl_num.proofs.Places.{bit_at-with_bit, bit_at-with_bit_other, with_bit-same, from_bool-lt}
 use Rattle.mdl_cpu.specs.SystemFlags.{RF}
 use Rattle.mdl_insn.specs.declared.mnemonics.Op.{Op}
 use Rattle.mdl_step.specs.Step.{keeps_resume, resumed}
@@ -48,4 +49,21 @@ kept r op after e = rw e refl
 pub cleared : (r : Regs) (op : Op) (after : Next) (F : ℕ) → keeps_resume op after ≡ false → whole (record r { eflags = with_bit r.eflags RF 0 }) F ≡ resumed op after (whole r F)
 cleared r op after F e = rw e (ap (λ (x : ℕ). record r { eflags = x }) (resume r.eflags F))
 
-pub ruleset resumes = (kept, cleared)
+-- where RF is 0 there is nothing to clear
+zero : (e : ℕ) → bit e RF ≡ false → bit_at e RF ≡ 0
+zero e h = let small : bit_at e RF < 2 = bit_at-lt e RF in elim (cases_eq (bit_at e RF) 1) [
+  | inl one ↦ cc
+  | inr other ↦ omega (arith, small, other)
+]
+
+same : (e : ℕ) → bit e RF ≡ false → with_bit e RF 0 ≡ e
+same e h = ap (with_bit e RF) (sym (zero e h)) ∙ with_bit-same e RF
+
+already_by : (r : Regs) (op : Op) (after : Next) (F : ℕ) (keeps : Bool) → keeps_resume op after ≡ keeps → bit r.eflags RF ≡ false → whole r F ≡ resumed op after (whole r F)
+already_by r op after F true e h = sym (kept (whole r F) op after e)
+already_by r op after F false e h = ap (λ (x : ℕ). whole (record r { eflags = x }) F) (sym (same r.eflags h)) ∙ cleared r op after F e
+
+pub already : (r : Regs) (op : Op) (after : Next) (F : ℕ) → bit r.eflags RF ≡ false → whole r F ≡ resumed op after (whole r F)
+already r op after F h = already_by r op after F (keeps_resume op after) refl h
+
+pub ruleset resumes = (kept, cleared, already)

@@ -22,14 +22,14 @@ ghost use Rattle.cpu_core.specs.Plain.{IsPlain, IsReady};
 ghost use Rattle.cpu_core.specs.Rows.{told};
 ghost use Rattle.cpu_core.specs.Turns.{Executed, Takes};
 
-use crate::boundary::{Row, activity_after, hold_after};
+use crate::boundary::{Row, activity_after};
 use crate::causes::{
     DEBUG, NON_MASKABLE, activity_at, break_cause, event_cause, pending_after, pending_at,
     soft_cause,
 };
 use crate::code::Code;
 use crate::decoding::{decode, decode_far};
-use crate::execute::{execute, is_traced, land, masks};
+use crate::execute::{execute, is_traced, land, latch};
 use crate::reset::{clear_latches, reset_regs};
 use arrayvec::ArrayVec;
 use debug_regs::{Watched, data_breakpoints};
@@ -165,8 +165,7 @@ impl<L: Linear, P: Ports> Cpu<L, P> {
     {
         land(&mut self.regs, op, next, back);
         self.activity = activity_after(next);
-        self.latches.masked = masks(op, self.latches.masked);
-        self.latches.hold = hold_after(next);
+        latch(&mut self.latches, op, next);
     }
 
     /// What follows an instruction that passed: a software interrupt is delivered, and a trap is pending.

@@ -150,9 +150,9 @@ fn run_system<L: Linear, P: Ports>(
     marked(answer, false)
 }
 
-/// Runs an instruction, up to where what it holds is placed or dropped. `back` is the EIP behind it.
-#[inline(always)]
-pub(crate) fn run<L: Linear, P: Ports>(
+/// Runs an instruction whatever its mnemonic is: it is asked for its family.
+#[inline(never)]
+fn run_any<L: Linear, P: Ports>(
     regs: &mut Regs,
     flags: &mut Flags,
     lin: &mut L,
@@ -180,4 +180,48 @@ pub(crate) fn run<L: Linear, P: Ports>(
         return run_system(regs, flags, lin, ports, insn, back);
     }
     Err(no_such())
+}
+
+/// Runs an instruction, up to where what it holds is placed or dropped. `back` is the EIP behind it.
+///
+/// The mnemonics of most programs come at once.
+#[tactic(auto, using(crate::proofs::Arithmetic::arithmetic_runs))]
+#[inline(always)]
+pub(crate) fn run<L: Linear, P: Ports>(
+    regs: &mut Regs,
+    flags: &mut Flags,
+    lin: &mut L,
+    ports: &mut P,
+    insn: &Insn,
+    back: u32,
+) -> Result<Ran, Fault>
+    requires spelt { (bytes : List ℕ) × (big : Bool) × Spelt bytes big insn.now }
+    requires ready { IsSettled (whole regs.old flags.old) (L.seen lin.old) }
+    ensures { Runs (rules_of P.Ports) L.pick insn.now (whole regs.old flags.old) back (L.seen lin.old) ports.old result (whole regs.new flags.new) (L.seen lin.new) ports.new }
+{
+    match insn.op {
+        Op::Mov => {
+            if runs_data(insn) {
+                return run_data(regs, flags, lin, ports, insn, back);
+            }
+        }
+        Op::Movzx | Op::Movsx | Op::Add | Op::Or | Op::Adc | Op::Sbb | Op::And | Op::Sub
+        | Op::Xor | Op::Cmp | Op::Test | Op::Inc | Op::Dec | Op::Neg | Op::Not | Op::Shl
+        | Op::Shr | Op::Sar | Op::Setcc(_) => {
+            return run_data(regs, flags, lin, ports, insn, back);
+        }
+        Op::Jmp | Op::Jcc(_) | Op::Call | Op::Ret | Op::Loop | Op::Push => {
+            return run_flow(regs, flags, lin, ports, insn, back);
+        }
+        Op::Pop => {
+            if runs_flow(insn) {
+                return run_flow(regs, flags, lin, ports, insn, back);
+            }
+        }
+        Op::Movs | Op::Cmps | Op::Stos | Op::Lods | Op::Scas => {
+            return run_string(regs, flags, lin, ports, insn, back);
+        }
+        _ => {}
+    }
+    run_any(regs, flags, lin, ports, insn, back)
 }

@@ -1,6 +1,6 @@
 //! One instruction: what it leaves, or its fault.
 
-ghost use Rattle.std.specs.Prelude.{◌≡◌, ℕ, Bool, false, List, IfOk, IfErr, OnErr};
+ghost use Rattle.std.specs.Prelude.{◌≡◌, ℕ, Bool, true, false, List, IfOk, IfErr, OnErr};
 ghost use Rattle.std.specs.Bool.{OnTrue};
 ghost use Rattle.mdl_insn.specs.Spelling.{Spelt};
 ghost use Rattle.mdl_state.specs.declared.Regs.{Regs as Registers};
@@ -8,17 +8,17 @@ ghost use Rattle.mdl_state.specs.State.{Mem};
 ghost use Rattle.mdl_cpu.specs.SystemFlags.{TF};
 ghost use Rattle.mdl_state.specs.Bytes.{bit};
 ghost use Rattle.mem_iface.specs.Rules.{rules_of};
-ghost use Rattle.mdl_step.specs.Step.{keeps_resume, landed, resumed, masks, with_control, remapped};
+ghost use Rattle.mdl_step.specs.Step.{hold_after, keeps_resume, landed, resumed, masks, with_control, remapped};
 ghost use Rattle.operands.specs.Whole.{whole};
 ghost use Rattle.cpu_core.specs.Executing.{Passes, Faults};
 ghost use Rattle.cpu_core.specs.Plain.{IsSettled};
 
-use crate::boundary::{RESUME, has};
+use crate::boundary::{RESUME, has, hold_after};
 use crate::dispatch::{Ran, run};
 use lazy_flags::Flags;
 use mdl_insn::{Insn, Op, Operand};
 use mdl_num::with_bit;
-use mdl_state::{Fault, Next, Regs};
+use mdl_state::{Fault, Latches, Next, Regs};
 use mem_iface::{Linear, Ports};
 
 /// The number of PG in CR0.
@@ -117,28 +117,49 @@ fn keeps_resume(op: Op, next: Next) -> bool
     }
 }
 
-/// Puts EIP behind an instruction, unless that set it or goes on, and clears RF.
+/// Clears RF behind an instruction, unless that leaves it. It is 1 behind few.
 #[inline(always)]
 #[tactic(auto, using(crate::proofs::Resumed::resumes))]
-pub(crate) fn land(regs: &mut Regs, op: Op, next: Next, back: u32)
-    ensures { (flags : ℕ) → whole regs.new flags ≡ resumed op next (landed next (whole regs.old flags) back) }
+fn resume(regs: &mut Regs, op: Op, next: Next)
+    ensures { (flags : ℕ) → whole regs.new flags ≡ resumed op next (whole regs.old flags) }
 {
-    match next {
-        Next::Landed | Next::Again | Next::Soft(_) | Next::Task(_) => {}
-        _ => regs.eip = back,
-    }
-    if !keeps_resume(op, next) {
+    if has(regs.eflags, RESUME) && !keeps_resume(op, next) {
         regs.eflags = with_bit(regs.eflags, RESUME, false);
     }
 }
 
-/// Whether NMIs stay masked behind an instruction: IRET lets them in again.
+/// Puts EIP behind an instruction, unless that set it or goes on, and clears RF.
 #[inline(always)]
-pub(crate) fn masks(op: Op, masked: bool) -> bool
-    ensures { result ≡ masks op masked }
+pub(crate) fn land(regs: &mut Regs, op: Op, next: Next, back: u32)
+    ensures { (flags : ℕ) → whole regs.new flags ≡ resumed op next (landed next (whole regs.old flags) back) }
+{
+    match next {
+        Next::Landed | Next::Again | Next::Soft(_) | Next::Task(_) => resume(regs, op, next),
+        _ => {
+            regs.eip = back;
+            resume(regs, op, next);
+        }
+    }
+}
+
+/// Whether NMIs that are masked stay so behind an instruction: IRET lets them in again.
+#[inline(always)]
+fn masks(op: Op) -> bool
+    ensures { result ≡ masks op true }
 {
     match op {
         Op::Iret => false,
-        _ => masked,
+        _ => true,
+    }
+}
+
+/// What is masked and held back behind an instruction.
+#[inline(always)]
+pub(crate) fn latch(latches: &mut Latches, op: Op, next: Next)
+    ensures { latches.new ≡ record latches.old { masked = masks op latches.old.masked; hold = hold_after next } }
+{
+    latches.hold = hold_after(next);
+    if latches.masked {
+        latches.masked = masks(op);
     }
 }
