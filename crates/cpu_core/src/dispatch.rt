@@ -205,9 +205,25 @@ pub(crate) fn run<L: Linear, P: Ports>(
                 return run_data(regs, flags, lin, ports, insn, back);
             }
         }
-        Op::Movzx | Op::Movsx | Op::Add | Op::Or | Op::Adc | Op::Sbb | Op::And | Op::Sub
-        | Op::Xor | Op::Cmp | Op::Test | Op::Inc | Op::Dec | Op::Neg | Op::Not | Op::Shl
-        | Op::Shr | Op::Sar | Op::Setcc(_) => {
+        Op::Movzx
+        | Op::Movsx
+        | Op::Add
+        | Op::Or
+        | Op::Adc
+        | Op::Sbb
+        | Op::And
+        | Op::Sub
+        | Op::Xor
+        | Op::Cmp
+        | Op::Test
+        | Op::Inc
+        | Op::Dec
+        | Op::Neg
+        | Op::Not
+        | Op::Shl
+        | Op::Shr
+        | Op::Sar
+        | Op::Setcc(_) => {
             return run_data(regs, flags, lin, ports, insn, back);
         }
         Op::Jmp | Op::Jcc(_) | Op::Call | Op::Ret | Op::Loop | Op::Push => {

@@ -27,5 +27,5 @@ goes_on rep compares wide r = not (count_of r wide == 0) && (not compares || is_
 abbrev pub counted : Rep → Bool → Bool → After → After
 counted rep compares wide after = record after {
   regs = counted_down after.regs wide;
-  next = if goes_on rep compares wide (counted_down after.regs wide) then Again else Follow
+  next = if goes_on rep compares wide (counted_down after.regs wide) then Again else Follow;
 }
