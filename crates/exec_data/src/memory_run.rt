@@ -20,7 +20,7 @@ use crate::bit_strings::{bit_change_memory, bit_test_memory};
 use crate::bounds::check_bounds;
 use crate::conditions::set_memory;
 use crate::far_pointers::load_pointer;
-use crate::moves::{exchange_memory, move_value};
+use crate::moves::{copy, exchange_memory, move_value};
 use crate::plain::{is_data, is_move};
 use crate::reads::{run_first, run_second};
 use crate::segments::{move_from_segment, move_to_segment, pop_segment};
@@ -132,6 +132,19 @@ pub(crate) fn run_move<L: Linear>(regs: &mut Regs, lin: &mut L, insn: &Insn) -> 
     ensures unchanged { OnErr result (regs.new ≡ regs.old) }
     ensures keeps { Keeps (L.seen lin.old) (L.seen lin.new) }
 {
+    if let Operand::Gpr(_, _) = insn.a {
+        match insn.b {
+            Operand::Imm(_, _) => {
+                copy(regs, insn);
+                return Ok(Next::Follow);
+            }
+            Operand::Gpr(_, _) => {
+                copy(regs, insn);
+                return Ok(Next::Follow);
+            }
+            _ => {}
+        }
+    }
     match insn.a {
         Operand::Sreg(seg) => move_to_segment(regs, lin, insn, seg),
         _ => move_out(regs, lin, insn),

@@ -23,6 +23,7 @@ use operands::{
 };
 
 /// MOV.
+#[inline(always)]
 #[tactic(auto, unfolding(mdl_effect::specs::Moves::move_plan))]
 pub(crate) fn copy(regs: &mut Regs, insn: &Insn)
     requires a { IsPlainOf insn.now.size insn.now.a }
