@@ -288,7 +288,7 @@ fn own<F: Fetch>(
     }
 }
 
-/// The same, with registers by the ModRM byte and by the opcode in line.
+/// The same, with the most frequent forms in line.
 #[tactic(auto, using(crate::proofs::Placing::own_fixed), unfolding(crate::specs::Reading::Runs))]
 #[inline(always)]
 pub fn rest<F: Fetch>(
@@ -321,86 +321,6 @@ pub fn rest<F: Fetch>(
             Ok(())
         }
         _ => own(fetch, count, k, form, to),
-    }
-}
-
-/// The same, with the forms in line that most first operands without a ModRM byte have.
-#[tactic(auto, using(crate::proofs::Running::runs_err, crate::proofs::Running::runs_ok, crate::proofs::Placing::own_ok, crate::proofs::Placing::own_err, crate::proofs::Placing::own_fixed), unfolding(crate::specs::Reading::Runs))]
-#[inline(always)]
-pub fn front<F: Fetch>(
-    fetch: &mut F,
-    count: &mut u8,
-    k: &Selected,
-    form: Form,
-    to: &mut Operand,
-) -> Result<(), Undecoded>
-    requires room { count.old ≤ 15 }
-    requires form { may_address_of form ≡ false }
-    ensures runs { Runs F.gives (operand_tree k.now form) count.old fetch.old (left result to.new) count.new fetch.new }
-    ensures count { count.new ≤ 15 }
-{
-    match form {
-        Form::Jb => {
-            let x = number_1(fetch, count)?;
-            *to = Operand::Rel(extend(0x80, 0x1_0000_0000, x) as u32);
-            Ok(())
-        }
-        Form::No => {
-            *to = Operand::Nothing;
-            Ok(())
-        }
-        Form::Rb => {
-            *to = Operand::Gpr(k.opcode % 8, Size::B1);
-            Ok(())
-        }
-        Form::Rv => {
-            *to = Operand::Gpr(k.opcode % 8, k.setting.size);
-            Ok(())
-        }
-        Form::Al => {
-            *to = Operand::Gpr(0, Size::B1);
-            Ok(())
-        }
-        Form::Ax => {
-            *to = Operand::Gpr(0, k.setting.size);
-            Ok(())
-        }
-        _ => own(fetch, count, k, form, to),
-    }
-}
-
-/// The same, with the forms in line that most second operands have.
-#[tactic(auto, using(crate::proofs::Running::runs_err, crate::proofs::Running::runs_ok, crate::proofs::Placing::own_ok, crate::proofs::Placing::own_err, crate::proofs::Placing::own_fixed), unfolding(crate::specs::Reading::Runs))]
-#[inline(always)]
-pub fn back<F: Fetch>(
-    fetch: &mut F,
-    count: &mut u8,
-    k: &Selected,
-    form: Form,
-    to: &mut Operand,
-) -> Result<(), Undecoded>
-    requires room { count.old ≤ 15 }
-    requires form { may_address_of form ≡ false }
-    ensures runs { Runs F.gives (operand_tree k.now form) count.old fetch.old (left result to.new) count.new fetch.new }
-    ensures count { count.new ≤ 15 }
-{
-    match form {
-        Form::Ib => {
-            let x = number_1(fetch, count)?;
-            *to = immediate(Size::B1, x);
-            Ok(())
-        }
-        Form::Iv => {
-            let x = number_of(fetch, count, k.setting.size)?;
-            *to = immediate(k.setting.size, x);
-            Ok(())
-        }
-        Form::Is => {
-            let x = number_1(fetch, count)?;
-            *to = signed(k.setting.size, x);
-            Ok(())
-        }
-        _ => rest(fetch, count, k, form, to),
     }
 }
 

@@ -12,7 +12,7 @@ ghost use Rattle.insn_decode.specs.Selection.{chosen_by, picked};
 use crate::addresses::reg_of;
 use crate::bytes::byte;
 use crate::legality::{allows, has_modrm, is_start};
-use crate::operands::{Selected, any, back, front, last, modrm, rest};
+use crate::operands::{Selected, any, last, modrm, rest};
 use crate::refusals::Undecoded;
 use mdl_insn::lookups::{member_entry, one_entry, two_entry};
 use mdl_insn::rows::{Entry, Kind, Row, Setting, Width};
@@ -37,8 +37,8 @@ fn bare<F: Fetch>(
     ensures runs { Runs F.gives (three_tree k.now.setting.now (chosen_by k.now)) count.old fetch.old (left result (three a.new b.new c.new)) count.new fetch.new }
     ensures count { count.new ≤ 15 }
 {
-    front(fetch, count, k, k.row.a, a)?;
-    back(fetch, count, k, k.row.b, b)?;
+    rest(fetch, count, k, k.row.a, a)?;
+    rest(fetch, count, k, k.row.b, b)?;
     last(fetch, count, k, k.row.c, c)
 }
 
@@ -61,7 +61,7 @@ fn first<F: Fetch>(
     ensures count { count.new ≤ 15 }
 {
     modrm(fetch, count, k, k.row.a, a)?;
-    back(fetch, count, k, k.row.b, b)?;
+    rest(fetch, count, k, k.row.b, b)?;
     last(fetch, count, k, k.row.c, c)
 }
 
