@@ -1,5 +1,6 @@
 -- What the keeper is seen as tells the flags and the last operation.
-use Rattle.std.proofs.Common.{◌≡◌, ◌≢◌, ℕ, ◌+◌, ◌*◌, ◌^◌, ◌<◌, refl, sym, ◌∙◌, ap, arith, Bool, true, false, List, [], ◌∷◌, get_or}
+use Rattle.std.proofs.lemmas.Bool.{cases_eq}
+use Rattle.std.proofs.Common.{◌≡◌, inl, inr, ◌≢◌, ℕ, ◌+◌, ◌*◌, ◌^◌, ◌<◌, refl, sym, ◌∙◌, ap, arith, Bool, true, false, List, [], ◌∷◌, get_or}
 use Rattle.std.specs.Prelude.{IsTrue, ◌==◌}
 use Rattle.std.specs.Int.{bit_at, from_bool}
 use Rattle.std.proofs.lemmas.Nat.Bits.{bit_at-lt, bit_at_cat_low}
@@ -15,7 +16,7 @@ use Rattle.mdl_num.proofs.Places.{bit_at-with_bit, with_bit-lt, from_bool-lt}
 use Rattle.lazy_flags.specs.Keeper.{with_status, is_status_bit, operation_status, plain_status, operation_number, size_number, left, kept}
 use Rattle.lazy_flags.specs.declared.operation.FlagOp.{FlagOp}
 use Rattle.lazy_flags.specs.declared.operation.FlagOp.TheVariants.{Add, AddCarry, Sub, SubBorrow, Logic, Inc, Dec, Plain}
-use Rattle.lazy_flags.proofs.Packing.{put_other, left_carry, left_parity, left_zero, left_sign, with_status-operation, with_status-increment, with_status-decrement}
+use Rattle.lazy_flags.proofs.Packing.{put_other, left_carry, left_parity, left_adjust, left_zero, left_sign, left_overflow, with_status-operation, with_status-increment, with_status-decrement}
 
 -- ---- the flags
 
@@ -108,7 +109,44 @@ pub sign_told : (op : FlagOp) (a b : ℕ) (size : Size) (on : Bool) → (operati
 unfolding left
 sign_told op a b size on e = low_flag op a b size SF (omega arith) ∙ told _ SF on (left_sign (operation_status op size a b) 0 0 on e)
 
-pub ruleset told_flags = (carry_told, parity_told, zero_told, sign_told)
+none_left : (k : ℕ) → IsTrue (is_status_bit k) → k ≢ CF → k ≢ PF → k ≢ AF → k ≢ ZF → k ≢ SF → k ≢ OF → ⊥
+none_left k h c p j z n o = grind arith
+
+adjust_told : (op : FlagOp) (a b : ℕ) (size : Size) (on : Bool) → (operation_status op size a b).adjust ≡ Tells on → is_set (kept op a b size) AF ≡ on
+unfolding left
+adjust_told op a b size on e = low_flag op a b size AF (omega arith) ∙ told _ AF on (left_adjust (operation_status op size a b) 0 0 on e)
+
+overflow_told : (op : FlagOp) (a b : ℕ) (size : Size) (on : Bool) → (operation_status op size a b).overflow ≡ Tells on → is_set (kept op a b size) OF ≡ on
+unfolding left
+overflow_told op a b size on e = low_flag op a b size OF (omega arith) ∙ told _ OF on (left_overflow (operation_status op size a b) 0 0 on e)
+
+-- a number that has the flags tells each of them
+pub plain_told : (a b : ℕ) (size : Size) (k : ℕ) → IsTrue (is_status_bit k) → is_set (kept Plain a b size) k ≡ is_set a k
+unfolding operation_status
+plain_told a b size k h =
+    elim (cases_eq k CF) [
+      | inl e ↦ rw e (carry_told Plain a b size (is_set a CF) refl)
+      | inr c ↦
+          elim (cases_eq k PF) [
+            | inl e ↦ rw e (parity_told Plain a b size (is_set a PF) refl)
+            | inr p ↦
+                elim (cases_eq k AF) [
+                  | inl e ↦ rw e (adjust_told Plain a b size (is_set a AF) refl)
+                  | inr j ↦
+                      elim (cases_eq k ZF) [
+                        | inl e ↦ rw e (zero_told Plain a b size (is_set a ZF) refl)
+                        | inr z ↦
+                            elim (cases_eq k SF) [
+                              | inl e ↦ rw e (sign_told Plain a b size (is_set a SF) refl)
+                              | inr n ↦
+                                  elim (cases_eq k OF) [ inl e ↦ rw e (overflow_told Plain a b size (is_set a OF) refl) | inr o ↦ absurd (none_left k h c p j z n o) ]
+                            ]
+                      ]
+                ]
+          ]
+    ]
+
+pub ruleset told_flags = (carry_told, parity_told, zero_told, sign_told, plain_told)
 
 -- ---- the last operation
 

@@ -85,7 +85,7 @@ left_parity s old free b e =
     put_other OF s.overflow free _ PF (omega arith) ∙ put_other SF s.sign free _ PF (omega arith) ∙ put_other ZF s.zero free _ PF (omega arith)
     ∙ put_other AF s.adjust free _ PF (omega arith) ∙ put_own PF s.parity free _ b e
 
-left_adjust : (s : Status) (old free : ℕ) (b : Bool) → s.adjust ≡ Tells b → bit_at (flags_after s old free) AF ≡ from_bool b
+pub left_adjust : (s : Status) (old free : ℕ) (b : Bool) → s.adjust ≡ Tells b → bit_at (flags_after s old free) AF ≡ from_bool b
 unfolding flags_after
 left_adjust s old free b e =
     put_other OF s.overflow free _ AF (omega arith) ∙ put_other SF s.sign free _ AF (omega arith) ∙ put_other ZF s.zero free _ AF (omega arith)
@@ -100,7 +100,7 @@ pub left_sign : (s : Status) (old free : ℕ) (b : Bool) → s.sign ≡ Tells b 
 unfolding flags_after
 left_sign s old free b e = put_other OF s.overflow free _ SF (omega arith) ∙ put_own SF s.sign free _ b e
 
-left_overflow : (s : Status) (old free : ℕ) (b : Bool) → s.overflow ≡ Tells b → bit_at (flags_after s old free) OF ≡ from_bool b
+pub left_overflow : (s : Status) (old free : ℕ) (b : Bool) → s.overflow ≡ Tells b → bit_at (flags_after s old free) OF ≡ from_bool b
 unfolding flags_after
 left_overflow s old free b e = put_own OF s.overflow free _ b e
 

@@ -154,6 +154,7 @@ impl Flags {
 
     /// A flag, by its bit in EFLAGS.
     #[tactic(auto, using(crate::proofs::Kept::told_flags), unfolding(crate::specs::Keeper::operation_status))]
+    #[inline(always)]
     pub fn get(&self, flag: u8) -> bool
         requires { IsTrue (is_status_bit flag) }
         ensures { result ≡ is_set self.now flag }
@@ -161,7 +162,11 @@ impl Flags {
         if flag == CF {
             return carry(self.op, self.a, self.b, self.size);
         }
-        match (flag, value(self.op, self.a, self.b, self.size)) {
+        let value = value(self.op, self.a, self.b, self.size);
+        if value.is_none() {
+            return bit(self.a, flag);
+        }
+        match (flag, value) {
             (PF, Some(value)) => is_even_parity(value),
             (ZF, Some(value)) => value == 0,
             (SF, Some(value)) => half(self.size) <= value,
