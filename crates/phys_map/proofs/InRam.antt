@@ -124,18 +124,18 @@ pub stored_sound : (p : Physical) (at : ℕ) (size : Size) (value : ℕ) → IsS
 stored_sound p at size value sound page h = (stored_became p at size value sound page h).sound
 
 -- below the end of conventional memory stands RAM, whatever the line A20 is
-pub conventional : (p : Physical) (at : ℕ) → at < 0xA0000 → byte_at p at ≡ slice_index p.ram at
-conventional p at h =
-    let same : gated p.a20 at ≡ at = ungated p.a20 at h in
-    let there : is_ram (length p.ram) (gated p.a20 at) ≡ true = rw same (low (length p.ram) at h) in
-    first_ram p at there ∙ ap (slice_index p.ram) same
-  where
-    ungated : (a20 : Bool) (at : ℕ) → at < 0xA0000 → gated a20 at ≡ at
-    ungated true at h = refl
-    ungated false at h = omega arith
+ungated : (a20 : Bool) (at : ℕ) → at < 0xA0000 → gated a20 at ≡ at
+ungated true at h = refl
+ungated false at h = omega arith
 
-    low : (size at : ℕ) → at < 0xA0000 → is_ram size at ≡ true
-    low size at h = grind arith
+low : (size at : ℕ) → at < 0xA0000 → is_ram size at ≡ true
+low size at h = grind arith
+
+there : (p : Physical) (at : ℕ) → at < 0xA0000 → is_ram (length p.ram) (gated p.a20 at) ≡ true
+there p at h = rw (ungated p.a20 at h) (low (length p.ram) at h)
+
+pub conventional : (p : Physical) (at : ℕ) → at < 0xA0000 → byte_at p at ≡ slice_index p.ram at
+conventional p at h = first_ram p at (there p at h) ∙ ap (slice_index p.ram) (ungated p.a20 at h)
 
 pub loaded_conventional : (p : Physical) (at : ℕ) (size : Size) → at + bytes_of size ≤ 0xA0000 → loaded p at size ≡ number_at p.ram at size
 unfolding loaded
@@ -153,3 +153,13 @@ loaded_conventional p at B4 low =
 
 pub some_ram : (p : Physical) → IsSound p → 0xA0000 ≤ length p.ram
 some_ram p sound = let least : 0x100000 ≤ length p.ram = sound.ram.least in omega arith
+
+-- a number stored there
+pub low_fits : (p : Physical) (at : ℕ) (size : Size) → IsSound p → InPage at size → at < 0xA0000 → at + bytes_of size ≤ length p.ram
+low_fits p at size sound page h = subst (λ (i : ℕ). i + bytes_of size ≤ length p.ram) (ungated p.a20 at h) (ram_fits p at size sound page (there p at h))
+
+pub low_stored : (p : Physical) (at : ℕ) (size : Size) (value : ℕ) (ram : List ℕ) → IsSound p → InPage at size → at < 0xA0000 → ram ≡ with_bytes p.ram at (little_bytes (bytes_of size) value) → record p { ram = ram } ≡ stored p at size value
+low_stored p at size value ram sound page h r = stored_ram p at size value at ram sound page (sym (ungated p.a20 at h)) (low (length p.ram) at h) r
+
+pub low_sound : (p : Physical) (at : ℕ) (size : Size) (value : ℕ) → IsSound p → InPage at size → at < 0xA0000 → IsSound (record p { ram = with_bytes p.ram at (little_bytes (bytes_of size) value) })
+low_sound p at size value sound page h = subst (λ (i : ℕ). IsSound (record p { ram = with_bytes p.ram i (little_bytes (bytes_of size) value) })) (ungated p.a20 at h) (stored_sound p at size value sound page (there p at h))

@@ -1,5 +1,5 @@
 -- Bytes of a page of the ROM are those of the ROM's list, one behind the other.
-use Rattle.std.specs.Prelude.{ℕ, ◌≡◌, ◌<◌, ◌≤◌, ◌+◌, ◌-◌, ◌%◌, ◌^◌, false, List, length, slice_index, Some}
+use Rattle.std.specs.Prelude.{ℕ, ◌≡◌, ◌<◌, ◌≤◌, ◌+◌, ◌-◌, ◌%◌, ◌^◌, Bool, true, false, refl, List, length, slice_index, Some}
 use Rattle.std.proofs.Common.{arith, ap, sym, ◌∙◌}
 use Rattle.mdl_state.specs.State.{Physical}
 use Rattle.mdl_state.specs.Memory.{gated, is_ram, mapped_byte, byte_at, from_end, IsRomLength}
@@ -39,3 +39,22 @@ rom_fits p at back sound page word h =
     let here : gated p.a20 at % 0x1000 + 7 < 0x1000 = rw (gated_page p.a20 at) (omega (arith, page)) in
     let b : Behind p.rom (gated p.a20 at) 7 back = behind p.rom (gated p.a20 at) 7 back sound.rom here word h in
     (b.inside, omega (arith, b.fits))
+
+-- below the end of the first megabyte the line A20 changes no address
+ungated : (a20 : Bool) (at : ℕ) → at < 0x100000 → gated a20 at ≡ at
+ungated true at h = refl
+ungated false at h = omega arith
+
+-- what the map has where the ROM is seen below the end of the first megabyte
+mapped_low : (ram rom : List ℕ) (at back : ℕ) → at + back ≡ 0x100000 → 1 ≤ back → back ≤ 0x20000 → back ≤ length rom → mapped_byte ram rom at ≡ from_end rom back
+mapped_low ram rom at back sum some low inside = grind arith
+
+-- bytes of the ROM below the end of the first megabyte
+pub low_rom : (p : Physical) (at n back : ℕ) (rom : List ℕ) → rom ≡ p.rom → at + back ≡ 0x100000 → n < back → back ≤ 0x20000 → back ≤ length rom → byte_at p (at + n) ≡ slice_index rom (length rom - back + n)
+unfolding byte_at
+low_rom p at n back rom r sum less low inside =
+    let place : length rom - (back - n) ≡ length rom - back + n = omega (arith, less, inside) in
+    ap (mapped_byte p.ram p.rom) (ungated p.a20 (at + n) (omega (arith, sum, less)))
+    ∙ ap (λ (xs : List ℕ). mapped_byte p.ram xs (at + n)) (sym r)
+    ∙ mapped_low p.ram rom (at + n) (back - n) (omega (arith, sum, less)) (omega (arith, less)) (omega (arith, low)) (omega (arith, inside))
+    ∙ ap (slice_index rom) place

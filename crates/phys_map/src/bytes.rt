@@ -9,16 +9,16 @@ use crate::map::PhysMap;
 use mdl_state::{SCREEN_BASE, Size};
 
 /// Where conventional memory ends.
-const CONVENTIONAL_END: u32 = 0xA0000;
+pub(crate) const CONVENTIONAL_END: u32 = 0xA0000;
 
 /// Where the screen memory ends.
 const SCREEN_END: u32 = 0xC0000;
 
 /// Where the first megabyte ends. It is also bit 20 of an address.
-const MEGABYTE: u32 = 0x100000;
+pub(crate) const MEGABYTE: u32 = 0x100000;
 
 /// How much of the ROM's end is seen below the first megabyte's end.
-const LOW_ROM: usize = 0x20000;
+pub(crate) const LOW_ROM: usize = 0x20000;
 
 /// The number of physical addresses.
 const ADDRESSES: usize = 1 << 32;

@@ -3,7 +3,7 @@
 ghost use Rattle.std.specs.Prelude.{◌≡◌, ℕ, ◌+◌, ◌/◌, ◌%◌, ◌^◌, ◌<◌, ◌≤◌, length, slice_index, IfSome};
 ghost use Rattle.mdl_state.specs.Memory.{byte_at};
 
-use crate::bytes::{gated, is_ram, rom_back};
+use crate::bytes::{LOW_ROM, MEGABYTE, gated, is_ram, rom_back};
 use crate::map::PhysMap;
 
 /// The size of a page.
@@ -11,6 +11,9 @@ const PAGE: u32 = 0x1000;
 
 /// The last place in a page at which eight bytes lie whole.
 const LAST_WHOLE: u32 = PAGE - 8;
+
+/// The last address at which eight bytes lie below 1 MiB.
+const LAST_LOW: u32 = MEGABYTE - 8;
 
 /// The eight bytes from a place of a list on.
 #[tactic(auto, using(guest_ram::proofs::Eight::byte_of_eight))]
@@ -41,11 +44,29 @@ impl PhysMap {
         self.ram.load_eight(at)
     }
 
-    /// The eight bytes from an address on, where they are of one page of RAM or of the ROM. A page
-    /// that has one of these has nothing else.
+    /// The eight bytes from an address on, where they are of the ROM below 1 MiB, or of one page of RAM or
+    /// of the ROM. Boot code runs below 1 MiB, so that comes first and in line. Bit 20 of these addresses is
+    /// 0, so the line A20 changes none.
+    #[inline(always)]
+    #[tactic(auto, using(crate::proofs::InRom::low_rom))]
+    pub fn eight_in_page(&self, at: u32) -> Option<u64>
+        ensures within { IfSome result (λ word. at + 8 ≤ 2 ^ 32) }
+        ensures bytes { IfSome result (λ word. (i : ℕ) → i < 8 → byte_at self.now (at + i) ≡ word / 256 ^ i % 256) }
+    {
+        if at <= LAST_LOW {
+            let rom = self.rom.as_slice();
+            let back = (MEGABYTE - at) as usize;
+            if back <= LOW_ROM && back <= rom.len() {
+                return Some(eight_at(rom, rom.len() - back));
+            }
+        }
+        self.eight_far(at)
+    }
+
+    /// The same of one page, wherever it lies. A page that has RAM or the ROM has nothing else.
     #[inline(never)]
     #[tactic(auto, using(crate::proofs::InRam::byte_ram, crate::proofs::InRam::fits, crate::proofs::InRom::rom_fits))]
-    pub fn eight_in_page(&self, at: u32) -> Option<u64>
+    fn eight_far(&self, at: u32) -> Option<u64>
         ensures within { IfSome result (λ word. at + 8 ≤ 2 ^ 32) }
         ensures bytes { IfSome result (λ word. (i : ℕ) → i < 8 → byte_at self.now (at + i) ≡ word / 256 ^ i % 256) }
     {

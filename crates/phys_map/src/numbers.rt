@@ -5,7 +5,7 @@ ghost use Rattle.mdl_state.specs.Bytes.{bytes_of, bound_of};
 ghost use Rattle.mdl_state.specs.Accesses.{KeepsPhysical};
 ghost use Rattle.mem_iface.specs.Numbers.{loaded, stored, InPage};
 
-use crate::bytes::{gated, is_ram};
+use crate::bytes::{CONVENTIONAL_END, gated, is_ram};
 use crate::map::PhysMap;
 use mdl_state::Size;
 use mem_iface::Phys;
@@ -80,9 +80,13 @@ impl Phys for PhysMap {
         self.load_bytes(at, size)
     }
 
+    /// Most writes are of conventional memory, where the line A20 changes no address.
     #[inline(always)]
-    #[tactic(auto, using(crate::proofs::InRam::stored_ram, crate::proofs::InRam::ram_fits, crate::proofs::InRam::stored_sound))]
+    #[tactic(auto, using(crate::proofs::InRam::stored_ram, crate::proofs::InRam::ram_fits, crate::proofs::InRam::stored_sound, crate::proofs::InRam::low_fits, crate::proofs::InRam::low_stored, crate::proofs::InRam::low_sound))]
     fn store(&mut self, at: u32, size: Size, value: u32) {
+        if at < CONVENTIONAL_END {
+            return self.ram.store(at, size, value);
+        }
         let out = gated(self.a20, at);
         if is_ram(self.ram.size(), out) {
             return self.ram.store(out, size, value);

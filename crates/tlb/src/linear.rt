@@ -123,7 +123,7 @@ impl Tlb {
     fn ahead(&self, lin: u32) -> Option<u64>
         ensures { IfSome result (λ word. (who : Who) (i : ℕ) → i < 8 → (Passed (word / 256 ^ i % 256), self.now) ≡ read_at (by_pick plain_item) self.now ((lin + i) % 2 ^ 32) B1 who) }
     {
-        if !self.is_plain() {
+        if self.direct == 0 {
             return None;
         }
         self.phys.eight_in_page(lin)

@@ -3,7 +3,7 @@ use Rattle.mdl_state.specs.State.{Physical}
 use Rattle.mdl_state.specs.Memory.{is_ram, byte_at}
 use Rattle.phys_map.specs.Rom.{rom_back}
 use Rattle.phys_map.proofs.InRom.{byte_rom}
-use Rattle.phys_map.proofs.map.PhysMap.eight_in_page.Goals as goal
+use Rattle.phys_map.proofs.map.PhysMap.eight_far.Goals as goal
 
 pub returns-in-Some-clause-bytes : goal.returns-in-Some-clause-bytes
 returns-in-Some-clause-bytes c = λ i small.
