@@ -8,3 +8,4 @@ pub mod Readings
 pub mod MoveLaws
 pub mod Memories
 pub mod Numbers
+pub mod ShiftLaws

@@ -10,6 +10,7 @@ ghost use Rattle.mdl_num.specs.Flags.{flags_after};
 ghost use Rattle.mdl_num.specs.Sums.{logic_value, logic_status};
 ghost use Rattle.lazy_flags.specs.Keeper.{with_status, kept};
 ghost use Rattle.lazy_flags.specs.declared.operation.FlagOp.TheVariants.{Logic};
+ghost use Rattle.mdl_insn.specs.declared.instruction.Operand.TheVariants.{Gpr};
 ghost use Rattle.mdl_effect.specs.Operands.{follow, is_plain, value_of};
 ghost use Rattle.mdl_effect.specs.Kinds.{is_place, is_value};
 ghost use Rattle.mdl_effect.specs.Forms.{IsOf};
@@ -26,7 +27,7 @@ use mdl_insn::{Insn, Op, Operand};
 use mdl_num::{CF, LogicOp, bound};
 use mdl_state::{Fault, Regs, Size};
 use mem_iface::Linear;
-use operands::{open, set, value};
+use operands::{open, reg, set, set_reg, value};
 
 /// AND, OR and XOR.
 #[inline(always)]
@@ -115,17 +116,18 @@ fn unary(op: Op, size: Size, a: u32, flags: &mut Flags) -> u32
 /// ADD to XOR in a register, with the number of the second operand.
 #[inline(always)]
 #[tactic(auto, unfolding(crate::specs::Reads::combining))]
-fn combine_number(regs: &mut Regs, flags: &mut Flags, insn: &Insn, b: u32)
-    requires a { IsPlainOf insn.now.size insn.now.a }
+fn combine_number(regs: &mut Regs, flags: &mut Flags, insn: &Insn, n: u8, b: u32)
+    requires a { insn.now.a ≡ Gpr n insn.now.size }
+    requires number { n < 8 }
     requires b { b < bound_of insn.now.size }
     ensures plan { follow (whole regs.new flags.new)
         ≡ combining insn.now (whole regs.old flags.old) (whole regs.new flags.new).eflags b }
     ensures last { flags.new ≡ last_of_two insn.now.op insn.now.size (value_of (whole regs.old flags.old) insn.now.a) b flags.old }
     ensures kept { KeepsOther regs.old regs.new }
 {
-    let a = value(regs, &insn.a, insn.size);
+    let a = reg(regs, n, insn.size);
     let value = binary(insn.op, insn.size, a, b, flags);
-    set(regs, &insn.a, insn.size, value);
+    set_reg(regs, n, insn.size, value);
 }
 
 /// ADD to XOR in a register.
@@ -136,8 +138,10 @@ fn combine_register<L: Linear>(
     flags: &mut Flags,
     lin: &mut L,
     insn: &Insn,
+    n: u8,
 ) -> Result<(), Fault>
-    requires a { IsPlainOf insn.now.size insn.now.a }
+    requires a { insn.now.a ≡ Gpr n insn.now.size }
+    requires number { n < 8 }
     requires value { is_value insn.now.b ≡ true }
     requires b { IsOf insn.now.size insn.now.b }
     requires address { HasAddress insn.now.b }
@@ -147,7 +151,7 @@ fn combine_register<L: Linear>(
     ensures keeps { Keeps (L.seen lin.old) (L.seen lin.new) }
 {
     let b = number(regs, lin, &insn.b, insn.size)?;
-    combine_number(regs, flags, insn, b);
+    combine_number(regs, flags, insn, n, b);
     Ok(())
 }
 
@@ -174,7 +178,7 @@ pub(crate) fn combine_place<L: Linear>(
     ensures keeps { Keeps (L.seen lin.old) (L.seen lin.new) }
 {
     match insn.a {
-        Operand::Gpr(_, _) => combine_register(regs, flags, lin, insn),
+        Operand::Gpr(n, _) => combine_register(regs, flags, lin, insn, n),
         Operand::At(_, _) => combine_memory(regs, flags, lin, insn),
         _ => unreachable!(),
     }

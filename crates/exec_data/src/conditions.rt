@@ -20,6 +20,7 @@ use mem_iface::Linear;
 use operands::{condition, set};
 
 /// SETcc: whether the condition holds, as a byte.
+#[inline(always)]
 #[tactic(auto, unfolding(mdl_effect::specs::Conditions::set_plan))]
 pub(crate) fn set_byte(regs: &mut Regs, flags: &Flags, insn: &Insn, number: u8)
     requires { IsPlainOf B1 insn.now.a }
@@ -30,9 +31,10 @@ pub(crate) fn set_byte(regs: &mut Regs, flags: &Flags, insn: &Insn, number: u8)
     set(regs, &insn.a, Size::B1, condition(number, flags) as u32);
 }
 
-/// SETcc in a register or in memory.
+/// SETcc, by where the operand is.
+#[inline(always)]
 #[tactic(auto, unfolding(mdl_effect::specs::Conditions::set_plan))]
-pub(crate) fn set_memory<L: Linear>(
+pub(crate) fn set_place<L: Linear>(
     regs: &mut Regs,
     flags: &Flags,
     lin: &mut L,

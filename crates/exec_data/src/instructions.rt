@@ -15,7 +15,7 @@ ghost use Rattle.operands.specs.Whole.{whole, ran};
 ghost use Rattle.exec_data.specs.Places.{is_placed};
 
 use crate::arithmetic::{change_place, combine_place, compare_values};
-use crate::conditions::set_memory;
+use crate::conditions::set_place;
 use crate::memory_run::{run_memory, run_move};
 use crate::plain::is_plain_data;
 use crate::plain_run::run_formed;
@@ -77,7 +77,7 @@ fn run_by_mnemonic<L: Linear>(
         Op::Cmp | Op::Test => compare_values(regs, flags, lin, insn)?,
         Op::Inc | Op::Dec | Op::Neg | Op::Not => change_place(regs, flags, lin, insn)?,
         Op::Rol | Op::Ror | Op::Rcl | Op::Rcr | Op::Shl | Op::Shr | Op::Sar => shift_place(regs, flags, lin, insn)?,
-        Op::Setcc(number) => set_memory(regs, flags, lin, insn, number)?,
+        Op::Setcc(number) => set_place(regs, flags, lin, insn, number)?,
         _ => return run_by_kinds(regs, flags, lin, insn),
     }
     Ok(Next::Follow)

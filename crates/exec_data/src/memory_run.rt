@@ -18,7 +18,7 @@ use crate::addresses::{load_address, translate_byte};
 use crate::arithmetic::{change_memory, combine_memory};
 use crate::bit_strings::{bit_change_memory, bit_test_memory};
 use crate::bounds::check_bounds;
-use crate::conditions::set_memory;
+use crate::conditions::set_place;
 use crate::far_pointers::load_pointer;
 use crate::moves::{copy, exchange_memory, move_value};
 use crate::plain::{is_data, is_move};
@@ -63,7 +63,7 @@ fn run_changed<L: Linear>(regs: &mut Regs, flags: &mut Flags, lin: &mut L, insn:
         Op::Bts => bit_change_memory(regs, flags, lin, insn, BitOp::Bts),
         Op::Btr => bit_change_memory(regs, flags, lin, insn, BitOp::Btr),
         Op::Btc => bit_change_memory(regs, flags, lin, insn, BitOp::Btc),
-        Op::Setcc(number) => set_memory(regs, flags, lin, insn, number),
+        Op::Setcc(number) => set_place(regs, flags, lin, insn, number),
         _ => unreachable!(),
     }
 }

@@ -1,6 +1,6 @@
 //! Shifts and rotates.
 
-ghost use Rattle.std.specs.Prelude.{◌≡◌, ◌≢◌, ◌<◌, true, OnErr};
+ghost use Rattle.std.specs.Prelude.{◌≡◌, ◌≢◌, ◌<◌, ◌%◌, ℕ, true, OnErr};
 ghost use Rattle.mdl_state.specs.declared.Size.TheVariants.{B1};
 ghost use Rattle.mdl_state.specs.Bytes.{bound_of};
 ghost use Rattle.mdl_state.specs.Serving.{by_pick};
@@ -8,16 +8,20 @@ ghost use Rattle.mdl_state.specs.Accesses.{Keeps, HasRoom};
 ghost use Rattle.mdl_state.specs.Attempt.{tried};
 ghost use Rattle.mdl_cpu.specs.Addresses.{HasAddress};
 ghost use Rattle.mdl_num.specs.Flags.{flags_after};
-ghost use Rattle.mdl_effect.specs.Operands.{follow};
+ghost use Rattle.mdl_num.specs.Shifts.{shift_value, shift_flags};
+ghost use Rattle.mdl_num.specs.declared.results.ShiftOp.TheVariants.{Shl};
+ghost use Rattle.lazy_flags.specs.Keeper.{with_status};
+ghost use Rattle.mdl_effect.specs.Operands.{follow, with_flags};
 ghost use Rattle.mdl_effect.specs.Kinds.{is_place};
 ghost use Rattle.mdl_effect.specs.Forms.{IsOf};
 ghost use Rattle.mdl_effect.specs.Shifts.{shifted, shift_plan, double_shift_plan};
 ghost use Rattle.operands.specs.Whole.{whole, after, IsPlainOf, KeepsOther};
 ghost use Rattle.operands.specs.Memory.{IsMemoryOf};
 
-use lazy_flags::Flags;
+use alu_ops::sum;
+use lazy_flags::{FlagOp, Flags};
 use mdl_insn::{Insn, Op, Operand};
-use mdl_num::{Alu, RotateOp, ShiftOp};
+use mdl_num::{Alu, RotateOp, ShiftOp, low};
 use mdl_state::{Fault, Regs, Size};
 use mem_iface::Linear;
 use operands::{keep, open, set, value};
@@ -42,7 +46,74 @@ fn shifted(op: Op, size: Size, a: u32, count: u8, flags: u32) -> Alu
     }
 }
 
+/// SHL by a count that is not 0. Half of its value, added to itself, leaves the same flags.
+#[inline(always)]
+#[tactic(auto, using(crate::proofs::ShiftLaws::left_shifts))]
+fn shift_left(size: Size, a: u32, count: u8, flags: &mut Flags) -> u32
+    requires a { a < bound_of size }
+    requires count { count % 32 ≢ 0 }
+    ensures value { result ≡ shift_value Shl size a count }
+    ensures bound { result < bound_of size }
+    ensures status { (e : ℕ) → with_status e flags.new
+        ≡ flags_after (shift_flags Shl size a count) (with_status e flags.old) (with_status e flags.new) }
+{
+    let half = low((a as u64) << (count % 32 - 1), size);
+    flags.set_from(FlagOp::Add, half, half, size);
+    sum(half, half, false, size)
+}
+
+/// SHR and SAR by a count that is not 0. No flag stays, so that those before are not asked for.
+#[inline(never)]
+#[tactic(auto, using(crate::proofs::ShiftLaws::shifts_by_some))]
+fn shift_right(op: ShiftOp, size: Size, a: u32, count: u8, regs: &Regs, flags: &mut Flags) -> u32
+    requires a { a < bound_of size }
+    requires count { count % 32 ≢ 0 }
+    ensures value { result ≡ shift_value op size a count }
+    ensures bound { result < bound_of size }
+    ensures status { whole regs.now flags.new
+        ≡ with_flags (whole regs.now flags.old) (shift_flags op size a count) (whole regs.now flags.new).eflags }
+{
+    let answer = bit_ops::shift(op, a, count, size, regs.eflags);
+    keep(flags, answer.flags);
+    answer.value
+}
+
+/// A shift or a rotate by its mnemonic, by all the flags before.
+#[inline(never)]
+fn shift_whole(op: Op, size: Size, a: u32, count: u8, regs: &Regs, flags: &mut Flags) -> u32
+    requires { a < bound_of size }
+    ensures value { result ≡ (shifted op size a count (whole regs.now flags.old).eflags).value }
+    ensures bound { result < bound_of size }
+    ensures status { whole regs.now flags.new
+        ≡ with_flags (whole regs.now flags.old) (shifted op size a count (whole regs.now flags.old).eflags).status (whole regs.now flags.new).eflags }
+{
+    let answer = shifted(op, size, a, count, flags.pack(regs.eflags));
+    keep(flags, answer.flags);
+    answer.value
+}
+
+/// A shift or a rotate by its mnemonic: its value, with the flags that it leaves.
+#[inline(always)]
+fn shift_number(op: Op, size: Size, a: u32, count: u8, regs: &Regs, flags: &mut Flags) -> u32
+    requires { a < bound_of size }
+    ensures value { result ≡ (shifted op size a count (whole regs.now flags.old).eflags).value }
+    ensures bound { result < bound_of size }
+    ensures status { whole regs.now flags.new
+        ≡ with_flags (whole regs.now flags.old) (shifted op size a count (whole regs.now flags.old).eflags).status (whole regs.now flags.new).eflags }
+{
+    if count % 32 != 0 {
+        match op {
+            Op::Shl => return shift_left(size, a, count, flags),
+            Op::Shr => return shift_right(ShiftOp::Shr, size, a, count, regs, flags),
+            Op::Sar => return shift_right(ShiftOp::Sar, size, a, count, regs, flags),
+            _ => {}
+        }
+    }
+    shift_whole(op, size, a, count, regs, flags)
+}
+
 /// ROL to SAR.
+#[inline(always)]
 #[tactic(auto, unfolding(mdl_effect::specs::Shifts::shift_plan))]
 pub(crate) fn shift(regs: &mut Regs, flags: &mut Flags, insn: &Insn)
     requires a { IsPlainOf insn.now.size insn.now.a }
@@ -53,9 +124,8 @@ pub(crate) fn shift(regs: &mut Regs, flags: &mut Flags, insn: &Insn)
 {
     let count = value(regs, &insn.b, Size::B1) as u8;
     let a = value(regs, &insn.a, insn.size);
-    let answer = shifted(insn.op, insn.size, a, count, flags.pack(regs.eflags));
-    keep(flags, answer.flags);
-    set(regs, &insn.a, insn.size, answer.value);
+    let value = shift_number(insn.op, insn.size, a, count, regs, flags);
+    set(regs, &insn.a, insn.size, value);
 }
 
 /// SHLD, with `left`, and SHRD.
@@ -79,6 +149,7 @@ pub(crate) fn double_shift(regs: &mut Regs, flags: &mut Flags, insn: &Insn, left
 }
 
 /// ROL to SAR in memory.
+#[inline(never)]
 #[tactic(auto, unfolding(mdl_effect::specs::Shifts::shift_plan))]
 pub(crate) fn shift_memory<L: Linear>(
     regs: &Regs,
@@ -97,9 +168,8 @@ pub(crate) fn shift_memory<L: Linear>(
     let count = value(regs, &insn.b, Size::B1) as u8;
     let place = open(regs, lin, &insn.a, insn.size)?;
     let a = lin.get(place, insn.size);
-    let answer = shifted(insn.op, insn.size, a, count, flags.pack(regs.eflags));
-    lin.hold(place, insn.size, answer.value);
-    keep(flags, answer.flags);
+    let value = shift_number(insn.op, insn.size, a, count, regs, flags);
+    lin.hold(place, insn.size, value);
     Ok(())
 }
 

@@ -105,11 +105,11 @@ pub(crate) fn run_flag(regs: &mut Regs, flags: &mut Flags, insn: &Insn)
     }
 }
 
-/// An instruction whose operands have the form of its mnemonic.
+/// Any of these instructions, whose operands have the form of its mnemonic.
 #[rattlefmt::skip]
 #[tactic(auto, using(operands::proofs::OperandKinds::kinds), unfolding(mdl_effect::specs::FlowEffects::flow_effect))]
-#[inline(always)]
-fn run_formed<L: Linear>(regs: &mut Regs, flags: &mut Flags, lin: &mut L, insn: &Insn, back: u32) -> Result<Next, Fault>
+#[inline(never)]
+fn run_any<L: Linear>(regs: &mut Regs, flags: &mut Flags, lin: &mut L, insn: &Insn, back: u32) -> Result<Next, Fault>
     requires runs { runs_flow insn.now ≡ true }
     requires formed { IsFormed insn.now }
     requires address { HasAddress insn.now.a }
@@ -135,6 +135,29 @@ fn run_formed<L: Linear>(regs: &mut Regs, flags: &mut Flags, lin: &mut L, insn: 
             Ok(Next::Follow)
         }
         _ => unreachable!(),
+    }
+}
+
+/// The same, with near jumps and calls in line.
+#[rattlefmt::skip]
+#[tactic(auto, using(operands::proofs::OperandKinds::kinds), unfolding(mdl_effect::specs::FlowEffects::flow_effect))]
+#[inline(always)]
+fn run_formed<L: Linear>(regs: &mut Regs, flags: &mut Flags, lin: &mut L, insn: &Insn, back: u32) -> Result<Next, Fault>
+    requires runs { runs_flow insn.now ≡ true }
+    requires formed { IsFormed insn.now }
+    requires address { HasAddress insn.now.a }
+    requires room { HasRoom (L.seen lin.old) 128 }
+    ensures run { (ran result (whole regs.new flags.new), L.seen lin.new)
+        ≡ tried (by_pick L.pick) 0 (flow_effect insn.now (whole regs.old flags.old) back) (L.seen lin.old) }
+    ensures unchanged { OnErr result ((regs.new ≡ regs.old) × (flags.new ≡ flags.old)) }
+    ensures keeps { Keeps (L.seen lin.old) (L.seen lin.new) }
+{
+    match insn.op {
+        Op::Jmp => jump(regs, lin, insn, back),
+        Op::Call => call(regs, lin, insn, back),
+        Op::Ret => return_near(regs, lin, insn),
+        Op::Jcc(number) => jump_if(number, regs, flags, insn, back),
+        _ => run_any(regs, flags, lin, insn, back),
     }
 }
 
