@@ -1,3 +1,4 @@
+pub mod Asked
 pub mod Running
 pub mod Trims
 pub mod PrefixSteps
@@ -7,3 +8,5 @@ pub mod RowKinds
 pub mod Placing
 pub mod Picking
 pub mod Only
+pub mod Named
+pub mod Shaped

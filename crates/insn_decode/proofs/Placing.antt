@@ -299,6 +299,16 @@ behind_left gives s r o k n st (Ok u) t m e h al q =
 behind_left gives s r o k n st (Err y) t m e h al q =
     three_like gives s (chosen_of r o k) h al n st (Err y) m e (runs_err gives (three_tree s (chosen_of r o k)) (λ w. Done (insn_from s r w)) n st y m e q)
 
+-- the operands read one after the other are those of the instruction
+pub behind_three : {S : Type 0} (gives : S → Result ℕ Fault → S → Type 0) (s : Setting) (r : Row) (o k n : ℕ) (st : S) (a : Operand) (m : ℕ) (p : S) (b : Operand) (l : ℕ) (q : S) (c : Operand) (j : ℕ) (e : S) → IsTrue (row_fits r) → IsTrue (allows s r k) → Runs gives (any_tree s (chosen_of r o k) r.a) n st (Ok a) m p → Runs gives (any_tree s (chosen_of r o k) r.b) m p (Ok b) l q → Runs gives (any_tree s (chosen_of r o k) r.c) l q (Ok c) j e → Runs gives (behind_tree s (chosen_of r o k)) n st (Ok (insn_from s r (three a b c))) j e
+unfolding three_tree Runs
+behind_three gives s r o k n st a m p b l q c j e fits allowed ra rb rc =
+    let tree = any_tree s (chosen_of r o k) in
+    behind_left gives s r o k n st (Ok a) (three a b c) j e fits allowed
+    (runs_ok gives (tree r.a) (λ x. tree r.b >>= λ y. tree r.c >>= λ z. Done (three x y z)) n st a m p (Ok (three a b c)) j e ra
+    (runs_ok gives (tree r.b) (λ y. tree r.c >>= λ z. Done (three a y z)) m p b l q (Ok (three a b c)) j e rb
+    (runs_ok gives (tree r.c) (λ z. Done (three a b z)) l q c j e (Ok (three a b c)) j e rc (refl, refl, refl))))
+
 -- ---- the opcode and the ModRM byte
 
 pub guard_bind : {S A B : Type 0} (gives : S → Result ℕ Fault → S → Type 0) (v : Bool) (a : A) (k : A → Tree B) → Like gives (guard v (k a)) (guard v (Done a) >>= k)

@@ -8,13 +8,18 @@
 pub mod addresses;
 pub mod bytes;
 pub mod decoding;
+mod frequent;
 pub mod legality;
 pub mod operands;
 pub mod prefixes;
+mod readers;
 pub mod refusals;
 pub mod rows;
+mod shapes;
 pub mod slice;
+mod told;
 
 pub use decoding::{blank, decode, decode_into};
+pub use frequent::decode_frequent;
 pub use refusals::{SliceError, Undecoded};
 pub use slice::decode_slice;

@@ -9,6 +9,7 @@ ghost use Rattle.mdl_insn.specs.Fits.{has_own};
 ghost use Rattle.insn_decode.specs.Reading.{Runs, left, e_size, is_immediate};
 ghost use Rattle.mdl_insn.specs.RowTree.{place_of};
 ghost use Rattle.insn_decode.specs.Selection.{chosen_by, operand_tree};
+ghost use Rattle.insn_decode.specs.Shapes.{is_number, is_distance};
 
 use crate::addresses::{extend, mem, mod_of, reg_of, rm_of};
 use crate::bytes::{far_number, number_1, number_2, number_of};
@@ -199,10 +200,10 @@ fn fixed(k: &Selected, form: Form, to: &mut Operand)
     }
 }
 
-/// A branch, a far pointer or memory at an offset, else an operand that the bytes in front tell.
+/// A number behind the opcode or the address.
 #[tactic(auto, using(crate::proofs::Running::runs_err, crate::proofs::Running::runs_ok, crate::proofs::Placing::own_ok, crate::proofs::Placing::own_err, crate::proofs::Placing::own_fixed), unfolding(crate::specs::Reading::Runs))]
 #[inline(always)]
-fn target<F: Fetch>(
+pub(crate) fn number<F: Fetch>(
     fetch: &mut F,
     count: &mut u8,
     k: &Selected,
@@ -210,8 +211,42 @@ fn target<F: Fetch>(
     to: &mut Operand,
 ) -> Result<(), Undecoded>
     requires room { count.old ≤ 15 }
-    requires form { may_address_of form ≡ false }
-    requires immediate { is_immediate form ≡ false }
+    requires form { is_number form ≡ true }
+    ensures runs { Runs F.gives (operand_tree k.now form) count.old fetch.old (left result to.new) count.new fetch.new }
+    ensures count { count.new ≤ 15 }
+{
+    match form {
+        Form::Ib => {
+            let x = number_1(fetch, count)?;
+            *to = immediate(Size::B1, x);
+            Ok(())
+        }
+        Form::Is => {
+            let x = number_1(fetch, count)?;
+            *to = signed(k.setting.size, x);
+            Ok(())
+        }
+        Form::Iv => {
+            let x = number_of(fetch, count, k.setting.size)?;
+            *to = immediate(k.setting.size, x);
+            Ok(())
+        }
+        _ => Err(Undecoded::Undefined),
+    }
+}
+
+/// The distance of a branch.
+#[tactic(auto, using(crate::proofs::Running::runs_err, crate::proofs::Running::runs_ok, crate::proofs::Placing::own_ok, crate::proofs::Placing::own_err, crate::proofs::Placing::own_fixed), unfolding(crate::specs::Reading::Runs))]
+#[inline(always)]
+pub(crate) fn distance<F: Fetch>(
+    fetch: &mut F,
+    count: &mut u8,
+    k: &Selected,
+    form: Form,
+    to: &mut Operand,
+) -> Result<(), Undecoded>
+    requires room { count.old ≤ 15 }
+    requires form { is_distance form ≡ true }
     ensures runs { Runs F.gives (operand_tree k.now form) count.old fetch.old (left result to.new) count.new fetch.new }
     ensures count { count.new ≤ 15 }
 {
@@ -226,6 +261,28 @@ fn target<F: Fetch>(
             *to = relative(k.setting.size, x);
             Ok(())
         }
+        _ => Err(Undecoded::Undefined),
+    }
+}
+
+/// A branch, a far pointer or memory at an offset, else an operand that the bytes in front tell.
+#[tactic(auto, using(crate::proofs::Running::runs_err, crate::proofs::Running::runs_ok, crate::proofs::Placing::own_ok, crate::proofs::Placing::own_err, crate::proofs::Placing::own_fixed), unfolding(crate::specs::Reading::Runs))]
+#[inline(never)]
+fn target<F: Fetch>(
+    fetch: &mut F,
+    count: &mut u8,
+    k: &Selected,
+    form: Form,
+    to: &mut Operand,
+) -> Result<(), Undecoded>
+    requires room { count.old ≤ 15 }
+    requires form { may_address_of form ≡ false }
+    requires immediate { is_immediate form ≡ false }
+    ensures runs { Runs F.gives (operand_tree k.now form) count.old fetch.old (left result to.new) count.new fetch.new }
+    ensures count { count.new ≤ 15 }
+{
+    match form {
+        Form::Jb | Form::Jv => distance(fetch, count, k, form, to),
         Form::Ob => {
             let x = number_of(fetch, count, size_of_address(k.setting.wide))?;
             *to = offset(k.setting, x, Size::B1);
@@ -250,7 +307,7 @@ fn target<F: Fetch>(
 
 /// An operand with no memory by the ModRM byte.
 #[tactic(auto, using(crate::proofs::Running::runs_err, crate::proofs::Running::runs_ok, crate::proofs::Placing::own_ok, crate::proofs::Placing::own_err, crate::proofs::Placing::own_fixed), unfolding(crate::specs::Reading::Runs))]
-#[inline(never)]
+#[inline(always)]
 fn own<F: Fetch>(
     fetch: &mut F,
     count: &mut u8,
@@ -264,28 +321,31 @@ fn own<F: Fetch>(
     ensures count { count.new ≤ 15 }
 {
     match form {
-        Form::Ib => {
-            let x = number_1(fetch, count)?;
-            *to = immediate(Size::B1, x);
-            Ok(())
-        }
-        Form::Iv => {
-            let x = number_of(fetch, count, k.setting.size)?;
-            *to = immediate(k.setting.size, x);
-            Ok(())
-        }
+        Form::Ib | Form::Is | Form::Iv => number(fetch, count, k, form, to),
         Form::Iw => {
             let x = number_2(fetch, count)?;
             *to = immediate(Size::B2, x);
             Ok(())
         }
-        Form::Is => {
-            let x = number_1(fetch, count)?;
-            *to = signed(k.setting.size, x);
-            Ok(())
-        }
         _ => target(fetch, count, k, form, to),
     }
+}
+
+/// The same, out of line.
+#[inline(never)]
+pub(crate) fn own_any<F: Fetch>(
+    fetch: &mut F,
+    count: &mut u8,
+    k: &Selected,
+    form: Form,
+    to: &mut Operand,
+) -> Result<(), Undecoded>
+    requires room { count.old ≤ 15 }
+    requires form { may_address_of form ≡ false }
+    ensures runs { Runs F.gives (operand_tree k.now form) count.old fetch.old (left result to.new) count.new fetch.new }
+    ensures count { count.new ≤ 15 }
+{
+    own(fetch, count, k, form, to)
 }
 
 /// The same, with the most frequent forms in line.
@@ -344,7 +404,7 @@ pub fn last<F: Fetch>(
             *to = Operand::Nothing;
             Ok(())
         }
-        _ => own(fetch, count, k, form, to),
+        _ => own_any(fetch, count, k, form, to),
     }
 }
 
@@ -365,6 +425,6 @@ pub fn any<F: Fetch>(
     if may_address(form) {
         modrm(fetch, count, k, form, to)
     } else {
-        own(fetch, count, k, form, to)
+        own_any(fetch, count, k, form, to)
     }
 }

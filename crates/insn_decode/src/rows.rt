@@ -135,7 +135,7 @@ fn operands<F: Fetch>(
 }
 
 #[inline(always)]
-fn size_of(s: &Setting, width: Width) -> Size
+pub(crate) fn size_of(s: &Setting, width: Width) -> Size
     ensures { result ≡ spec.size_of s.now width }
 {
     match width {
@@ -157,7 +157,7 @@ fn is_string(op: Op) -> bool
 
 /// A repeat prefix counts before a string instruction alone.
 #[inline(always)]
-fn rep_of(op: Op, rep: Rep) -> Rep
+pub(crate) fn rep_of(op: Op, rep: Rep) -> Rep
     ensures { result ≡ spec.rep_of op rep }
 {
     match rep {
@@ -191,15 +191,32 @@ fn behind<F: Fetch>(
     operands(fetch, count, k, &mut insn.a, &mut insn.b, &mut insn.c)
 }
 
+/// What follows the ModRM byte of any row.
+#[inline(never)]
+fn behind_any<F: Fetch>(
+    fetch: &mut F,
+    count: &mut u8,
+    k: &Selected,
+    insn: &mut Insn,
+) -> Result<(), Undecoded>
+    requires room { count.old ≤ 15 }
+    requires fits { IsTrue (row_fits k.now.row.now) }
+    requires allowed { IsTrue (operand_spec.allows k.now.setting.now k.now.row.now k.now.modrm) }
+    ensures runs { Runs F.gives (behind_tree k.now.setting.now (chosen_by k.now)) count.old fetch.old (left result insn.new) count.new fetch.new }
+    ensures count { count.new ≤ 15 }
+{
+    behind(fetch, count, k, insn)
+}
+
 /// The row of an entry. `modrm` is the ModRM byte that chooses it or that it has, or 0.
 #[tactic(auto, using(crate::proofs::Picking::none, crate::proofs::Picking::bare, crate::proofs::Picking::one, crate::proofs::Picking::one_err, crate::proofs::Picking::member, crate::proofs::Picking::member_undefined, crate::proofs::Picking::member_group, crate::proofs::Picking::member_err))]
 #[inline(always)]
-fn pick<F: Fetch>(
+fn pick<'a, F: Fetch>(
     fetch: &mut F,
     count: &mut u8,
-    entry: &'static Entry,
+    entry: &'a Entry,
     modrm: &mut u8,
-) -> Result<&'static Row, Undecoded>
+) -> Result<&'a Row, Undecoded>
     requires room { count.old ≤ 15 }
     requires entry { IsEntry entry.now }
     ensures runs { Runs F.gives (pick_tree entry.now) count.old fetch.old (picked result modrm.new) count.new fetch.new }
@@ -235,7 +252,7 @@ pub fn found<F: Fetch>(
     fetch: &mut F,
     count: &mut u8,
     setting: &Setting,
-    entry: &'static Entry,
+    entry: &Entry,
     opcode: u8,
     insn: &mut Insn,
 ) -> Result<(), Undecoded>
@@ -258,7 +275,7 @@ pub fn found<F: Fetch>(
         opcode,
         modrm,
     };
-    behind(fetch, count, &k, insn)
+    behind_any(fetch, count, &k, insn)
 }
 
 /// What follows some prefixes, or a first byte 0F.

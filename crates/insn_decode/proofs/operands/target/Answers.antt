@@ -1,22 +1,9 @@
 use Rattle.std.proofs.Common.{◌≡◌, refl, ap}
-use Rattle.mdl_insn.specs.declared.rows.Form.TheVariants.{Jb, Jv, Ob, Ov, P}
-use Rattle.mdl_insn.specs.declared.instruction.Operand.TheVariants.{Rel}
+use Rattle.mdl_insn.specs.declared.rows.Form.TheVariants.{Ob, Ov, P}
 use Rattle.mdl_state.specs.Bytes.{bytes_of}
 use Rattle.insn_decode.specs.Selection.{chosen_by}
 use Rattle.insn_decode.proofs.Placing.{own_ok_at}
 use Rattle.insn_decode.proofs.operands.target.Goals as goal
-
-pub returns-in_ok-x-in-Jb-clause-runs : goal.returns-in_ok-x-in-Jb-clause-runs
-returns-in_ok-x-in-Jb-clause-runs g c =
-    let h = c.in-Jb.is in
-    let same : c.args.form ≡ Jb = cc in
-    own_ok_at g.F.Fetch.gives c.args.k.now.setting.now (chosen_by c.args.k.now) c.args.form Jb _ c.args.count.now c.args.fetch.now c.in_ok-x-in-Jb.x _ _ _ same refl c.requires.form c.in_ok-x-in-Jb.ensures.runs (ap Rel c.extend.ensures)
-
-pub returns-in_ok-x-in-Jv-clause-runs : goal.returns-in_ok-x-in-Jv-clause-runs
-returns-in_ok-x-in-Jv-clause-runs g c =
-    let h = c.in-Jv.is in
-    let same : c.args.form ≡ Jv = cc in
-    own_ok_at g.F.Fetch.gives c.args.k.now.setting.now (chosen_by c.args.k.now) c.args.form Jv _ c.args.count.now c.args.fetch.now c.in_ok-x-in-Jv.x _ _ _ same refl c.requires.form c.in_ok-x-in-Jv.ensures.runs c.relative.ensures
 
 pub returns-in_ok-x-in-Ob-clause-runs : goal.returns-in_ok-x-in-Ob-clause-runs
 returns-in_ok-x-in-Ob-clause-runs g c =
