@@ -1,5 +1,5 @@
 -- The operands of sums, logic, shifts and extensions are neither control nor debug registers.
-use Rattle.std.proofs.Common.{◌≡◌, ℕ, ◌&&◌, ◌||◌, Bool, true, false, List, refl}
+use Rattle.std.proofs.Common.{◌≡◌, ℕ, ◌&&◌, Bool, true, false, List, refl}
 use Rattle.std.specs.Prelude.{not}
 use Rattle.std.proofs.lemmas.Bool.{false≢true}
 use Rattle.mdl_insn.specs.declared.instruction.Insn.{Insn}

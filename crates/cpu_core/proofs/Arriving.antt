@@ -25,7 +25,7 @@ use Rattle.operands.specs.Whole.{whole}
 use Rattle.fault_delivery.specs.declared.deliveries.Delivered.{Delivered}
 use Rattle.fault_delivery.specs.declared.deliveries.Delivered.TheVariants.{Done, Shutdown}
 use Rattle.fault_delivery.specs.Arrivals.{arrival}
-use Rattle.cpu_core.specs.Plain.{IsPlain, IsQuiet, IsReady}
+use Rattle.cpu_core.specs.Plain.{IsPlain, IsQuiet, IsReady, IsSettled}
 use Rattle.cpu_core.proofs.Families.{whole_unpacked}
 
 -- ---- a delivery
@@ -146,3 +146,10 @@ steady_ready r q m kept ready = record { sound = steady_sound r q kept ready.sou
 
 pub landed_ready : (op : Op) (after : Next) (r : Regs) (back : ℕ) (m : Mem) → IsReady r m → IsReady (resumed op after (landed after r back)) m
 landed_ready op after r back m ready = steady_ready (landed after r back) _ m (either_stays (keeps_resume op after) (landed after r back)) (steady_ready r (landed after r back) m (landed_stays after r back) ready)
+
+-- and settled, whatever breakpoints are looked for
+steady_settled : (r q : Regs) (m : Mem) → Steady r q → IsSettled r m → IsSettled q m
+steady_settled r q m kept settled = record { sound = steady_sound r q kept settled.sound; tables = steady_agrees r q m kept settled.tables; still = settled.still }
+
+pub landed_settled : (op : Op) (after : Next) (r : Regs) (back : ℕ) (m : Mem) → IsSettled r m → IsSettled (resumed op after (landed after r back)) m
+landed_settled op after r back m settled = steady_settled (landed after r back) _ m (either_stays (keeps_resume op after) (landed after r back)) (steady_settled r (landed after r back) m (landed_stays after r back) settled)

@@ -11,3 +11,4 @@ pub mod Pending
 pub mod Turns
 pub mod Arriving
 pub mod Eights
+pub mod Ends

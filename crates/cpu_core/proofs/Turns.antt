@@ -11,7 +11,7 @@ use Rattle.mdl_state.specs.State.{Mem, Item, Core, State}
 use Rattle.mdl_state.specs.Machine.{Rules, Machine}
 use Rattle.mdl_state.specs.Bytes.{bit}
 use Rattle.mdl_state.specs.Watches.{unwatched, watching}
-use Rattle.mdl_state.specs.Serving.{Serve, Pick, Policy, Outcome, Passed, Failed, by_pick, by_list, with_items}
+use Rattle.mdl_state.specs.Serving.{Serve, Pick, Policy, Outcome, Passed, by_pick, by_list, with_items}
 use Rattle.mdl_state.specs.Choices.{Meets, Follows, walks_after, walks_after-append}
 use Rattle.mdl_cpu.specs.declared.Cause.{Cause}
 use Rattle.mdl_cpu.specs.Breakpoints.{data_breakpoints}

@@ -6,3 +6,4 @@ pub mod Turns
 pub mod Ran
 pub mod Families
 pub mod Passing
+pub mod Ends

@@ -3,7 +3,6 @@
 ghost use Rattle.std.specs.Prelude.{◌≡◌, ◌<◌, ℕ, false, if◌then◌else◌};
 ghost use Rattle.std.specs.Bool.{OnTrue, OnFalse};
 ghost use Rattle.mdl_state.specs.Bytes.{bit};
-ghost use Rattle.mdl_state.specs.declared.Activity.TheVariants.{Running};
 ghost use Rattle.mdl_step.specs.Boundary as rows;
 ghost use Rattle.mdl_step.specs.Boundary.{takes_nmi, takes_trap, takes_break, takes_line, boundary_rows, hits_here};
 ghost use Rattle.mdl_cpu.specs.SystemFlags.{IF};
@@ -151,25 +150,6 @@ pub(crate) fn hits_here(regs: &Regs) -> u32
 {
     let code = segment(regs, Seg::Cs);
     execute_hit(regs, code.base.wrapping_add(regs.eip))
-}
-
-/// Whether the processor runs, and no debug trap and no NMI waits.
-#[inline(always)]
-pub(crate) fn runs_on(activity: Activity, latches: &Latches) -> bool
-    ensures running { OnTrue result (activity ≡ Running) }
-    ensures trap { OnTrue result (takes_trap latches.now ≡ false) }
-    ensures nmi { OnTrue result (takes_nmi latches.now ≡ false) }
-{
-    if latches.pending != 0 {
-        return false;
-    }
-    if latches.nmi {
-        return false;
-    }
-    match activity {
-        Activity::Running => true,
-        _ => false,
-    }
 }
 
 /// Whether nothing happens in a step.

@@ -5,7 +5,8 @@ ghost use Rattle.std.specs.Bool.{OnTrue, OnFalse};
 ghost use Rattle.mdl_state.specs.declared.Regs.{Regs as Registers};
 ghost use Rattle.mdl_state.specs.Accesses.{with_a20};
 ghost use Rattle.mdl_state.specs.Bytes.{bit};
-ghost use Rattle.mdl_state.specs.Boot.{reset_core};
+ghost use Rattle.mdl_state.specs.declared.Activity.TheVariants.{Running};
+ghost use Rattle.mdl_state.specs.Boot.{clear_latches, reset_core};
 ghost use Rattle.mdl_state.specs.Machine.{Machine};
 ghost use Rattle.mdl_state.specs.Serving.{Passed, by_pick};
 ghost use Rattle.mdl_insn.specs.declared.instruction.Insn.{Insn as Instruction};
@@ -22,6 +23,7 @@ ghost use Rattle.cpu_core.specs.Plain.{IsPlain, IsReady};
 ghost use Rattle.cpu_core.specs.Rows.{told};
 ghost use Rattle.cpu_core.specs.Turns.{Executed, Takes};
 
+use crate::between::Between;
 use crate::boundary::{Row, activity_after};
 use crate::causes::{
     DEBUG, NON_MASKABLE, activity_at, break_cause, event_cause, pending_after, pending_at,
@@ -31,6 +33,7 @@ use crate::code::Code;
 use crate::decoding::{decode, decode_far};
 use crate::execute::{execute, is_traced, land, latch};
 use crate::reset::{clear_latches, reset_regs};
+use crate::usual::execute_usual;
 use arrayvec::ArrayVec;
 use debug_regs::{Watched, data_breakpoints};
 use fault_delivery::{Cause, fault_cause, note_address};
@@ -50,8 +53,7 @@ use std::marker::Model;
 pub struct Cpu<L: Linear, P: Ports> {
     pub(crate) regs: Regs,
     pub(crate) flags: Flags,
-    pub(crate) activity: Activity,
-    pub(crate) latches: Latches,
+    pub(crate) between: Between,
     pub(crate) steps: u64,
     pub(crate) code: Watched<Code<L>>,
     pub(crate) ports: P,
@@ -72,7 +74,7 @@ impl<L: Linear, P: Ports> Model for Cpu<L, P> {
 
     ghost view = { λ p. record {
       state = record {
-        core = record { regs = whole p.regs p.flags; activity = p.activity; latches = p.latches; steps = p.steps };
+        core = record { regs = whole p.regs p.flags; activity = p.between.activity; latches = p.between.latches; steps = p.steps };
         mem = watching (L.seen p.code.inside.lin) p.code.watch.items p.code.hits;
       };
       board = p.ports;
@@ -94,8 +96,7 @@ impl<L: Linear, P: Ports> Cpu<L, P> {
         Cpu {
             regs,
             flags: Flags::unpack(regs.eflags),
-            activity: Activity::Running,
-            latches: clear_latches(),
+            between: Between::new(Activity::Running, clear_latches()),
             steps: 0,
             code: Watched::new(Code::new(lin)),
             ports,
@@ -114,8 +115,7 @@ impl<L: Linear, P: Ports> Cpu<L, P> {
         Cpu {
             regs,
             flags: Flags::unpack(regs.eflags),
-            activity,
-            latches,
+            between: Between::new(activity, latches),
             steps: 0,
             code: Watched::new(Code::new(lin)),
             ports,
@@ -134,8 +134,20 @@ impl<L: Linear, P: Ports> Cpu<L, P> {
         self.regs.eflags = self.flags.pack(self.regs.eflags);
         let delivered = fault_delivery::deliver(&mut self.regs, &mut self.code, cause);
         self.flags = Flags::unpack(self.regs.eflags);
-        self.activity = activity_at(delivered);
-        self.latches.pending = pending_at(delivered, self.latches.pending);
+        let mut latches = self.between.latches;
+        latches.pending = pending_at(delivered, latches.pending);
+        self.between = Between::new(activity_at(delivered), latches);
+    }
+
+    /// Nothing is held back any more.
+    fn release(&mut self)
+        ensures core { self.new.state.core ≡ record self.old.state.core { latches = record self.old.state.core.latches { hold = 0 } } }
+        ensures memory { self.new.state.mem ≡ self.old.state.mem }
+        ensures board { self.new.board ≡ self.old.board }
+    {
+        let mut latches = self.between.latches;
+        latches.hold = 0;
+        self.between = Between::new(self.between.activity, latches);
     }
 
     /// Delivers the fault of the instruction at CS:EIP. What was held back no longer is.
@@ -148,12 +160,11 @@ impl<L: Linear, P: Ports> Cpu<L, P> {
     {
         let cause = fault_cause(&self.regs, fault);
         note_address(&mut self.regs, fault);
-        self.latches.hold = 0;
+        self.release();
         self.deliver(cause);
     }
 
     /// What an instruction leaves of the processor that has these registers behind it.
-    #[inline(always)]
     fn land(&mut self, op: Op, next: Next, back: u32)
         ensures core { self.new.state.core ≡ record self.old.state.core {
           regs = resumed op next (landed next self.old.state.core.regs back);
@@ -164,8 +175,9 @@ impl<L: Linear, P: Ports> Cpu<L, P> {
         ensures board { self.new.board ≡ self.old.board }
     {
         land(&mut self.regs, op, next, back);
-        self.activity = activity_after(next);
-        latch(&mut self.latches, op, next);
+        let mut latches = self.between.latches;
+        latch(&mut latches, op, next);
+        self.between = Between::new(activity_after(next), latches);
     }
 
     /// What follows an instruction that passed: a software interrupt is delivered, and a trap is pending.
@@ -183,38 +195,22 @@ impl<L: Linear, P: Ports> Cpu<L, P> {
         ensures a20 { self.new.state.mem.physical.a20 ≡ self.old.state.mem.physical.a20 }
     {
         self.land(op, next, back);
-        self.latches.pending = pending_after(next, traced, hits, self.latches.pending);
+        let mut latches = self.between.latches;
+        latches.pending = pending_after(next, traced, hits, latches.pending);
+        self.between = Between::new(self.between.activity, latches);
         if let Next::Soft(vector) = next {
             self.deliver(soft_cause(vector, back));
         }
     }
 
-    /// The same, where TF was 0 and no breakpoint was met, with what mostly follows in line.
-    #[inline(always)]
-    fn complete(&mut self, op: Op, next: Next, back: u32)
-        requires served { self.old.state.mem.served ≡ [] }
-        ensures made { (insn : Instruction) (old : Registers) (access : PortUse) → insn.op ≡ op → bit old.eflags TF ≡ false →
-            passed_by next (by_pick L.pick) (record self.old.state.core { regs = old }) insn (record { regs = self.old.state.core.regs; next = next; access = access }) back 0 self.old.state.mem
-            ≡ (Passed self.new.state.core, self.new.state.mem) }
-        ensures board { self.new.board ≡ self.old.board }
-        ensures steps { self.new.state.core.steps ≡ self.old.state.core.steps }
-        ensures served { self.new.state.mem.served ≡ [] }
-        ensures a20 { self.new.state.mem.physical.a20 ≡ self.old.state.mem.physical.a20 }
-    {
-        match next {
-            Next::Follow => self.land(op, Next::Follow, back),
-            Next::Landed => self.land(op, Next::Landed, back),
-            Next::Again => self.land(op, Next::Again, back),
-            _ => self.complete_with(op, next, back, false, 0),
-        }
-    }
-
-    /// Executes the instruction at CS:EIP, or delivers its fault, where TF is 0 and no data breakpoint is
-    /// enabled. Answers whether a port may have been written.
+    /// Executes the instruction at CS:EIP, or delivers its fault, where TF is 0, no data breakpoint is
+    /// enabled and nothing waits. Answers whether a port may have been written.
     #[inline(always)]
     pub(crate) fn execute(&mut self) -> bool
         requires data { data_breakpoints self.old.state.core.regs ≡ [] }
         requires untraced { bit self.old.state.core.regs.eflags TF ≡ false }
+        requires runs { self.old.state.core.activity ≡ Running }
+        requires clear { self.old.state.core.latches ≡ clear_latches }
         ensures executed { Executed (rules_of P.Ports) L.pick self.old self.new }
         ensures steps { self.new.state.core.steps ≡ self.old.state.core.steps }
         ensures served { self.new.state.mem.served ≡ [] }
@@ -229,17 +225,21 @@ impl<L: Linear, P: Ports> Cpu<L, P> {
             }
         };
         let back = self.regs.eip.wrapping_add(count as u32);
-        match execute(
+        let ended = execute_usual(
             &mut self.regs,
             &mut self.flags,
             &mut self.code.inside.lin,
             &mut self.ports,
             &self.insn,
             back,
-        ) {
+        );
+        if ended.usual {
+            return false;
+        }
+        match ended.rest {
             Ok(ran) => {
                 let op = self.insn.op;
-                self.complete(op, ran.next, back);
+                self.complete_with(op, ran.next, back, false, 0);
                 !ran.alone
             }
             Err(fault) => {
@@ -302,8 +302,10 @@ impl<L: Linear, P: Ports> Cpu<L, P> {
         ensures a20 { self.new.state.mem.physical.a20 ≡ self.old.state.mem.physical.a20 }
     {
         let cause = event_cause(&self.regs, DEBUG);
-        self.regs.dr6 |= self.latches.pending as u32;
-        self.latches.pending = 0;
+        let mut latches = self.between.latches;
+        self.regs.dr6 |= latches.pending as u32;
+        latches.pending = 0;
+        self.between = Between::new(self.between.activity, latches);
         self.deliver(cause);
     }
 
@@ -319,7 +321,7 @@ impl<L: Linear, P: Ports> Cpu<L, P> {
     {
         let cause = break_cause(&self.regs);
         self.regs.dr6 |= hits;
-        self.latches.hold = 0;
+        self.release();
         self.deliver(cause);
     }
 
@@ -333,8 +335,10 @@ impl<L: Linear, P: Ports> Cpu<L, P> {
         ensures a20 { self.new.state.mem.physical.a20 ≡ self.old.state.mem.physical.a20 }
     {
         let cause = event_cause(&self.regs, NON_MASKABLE);
-        self.latches.nmi = false;
-        self.latches.masked = true;
+        let mut latches = self.between.latches;
+        latches.nmi = false;
+        latches.masked = true;
+        self.between = Between::new(self.between.activity, latches);
         self.deliver(cause);
     }
 
@@ -410,8 +414,7 @@ impl<L: Linear, P: Ports> Cpu<L, P> {
     {
         self.regs = reset_regs();
         self.flags = Flags::unpack(self.regs.eflags);
-        self.activity = Activity::Running;
-        self.latches = clear_latches();
+        self.between = Between::new(Activity::Running, clear_latches());
         self.code.set_paging(false);
         self.code.load_cr3(0);
         self.code.set_a20(self.ports.a20());
@@ -422,6 +425,8 @@ impl<L: Linear, P: Ports> Cpu<L, P> {
         ensures state { self.new.state ≡ with_nmi self.old.state }
         ensures board { self.new.board ≡ self.old.board }
     {
-        self.latches.nmi = true;
+        let mut latches = self.between.latches;
+        latches.nmi = true;
+        self.between = Between::new(self.between.activity, latches);
     }
 }

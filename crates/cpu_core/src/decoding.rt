@@ -8,7 +8,7 @@ ghost use Rattle.operands.specs.Whole.{whole};
 ghost use Rattle.cpu_core.specs.Window.{Spells, fault_of};
 
 use crate::code::{Code, Eight};
-use insn_decode::{Undecoded, decode_into};
+use insn_decode::{Undecoded, decode_frequent, decode_into};
 use mdl_insn::Insn;
 use mdl_state::{Fault, Regs, Seg};
 use mem_iface::Linear;
@@ -32,18 +32,58 @@ fn fault_of(cause: Undecoded) -> Fault
 fn is_wide(regs: &Regs) -> bool
     ensures { result ≡ is_wide regs.now }
 {
-    is_protected(regs) && is_big(&segment(regs, Seg::Cs))
+    is_big(&segment(regs, Seg::Cs)) && is_protected(regs)
 }
 
-/// The instruction at the front of eight bytes, where it has no more. The answer is its length.
+/// Any instruction at the front of eight bytes, where it has no more. The answer is its length.
 #[inline(never)]
-fn decode_eight(bytes: u64, big: bool, insn: &mut Insn) -> Option<u8>
+fn decode_any(bytes: u64, big: bool, insn: &mut Insn) -> Option<u8>
     ensures { IfSome result (λ count. Spells bytes big insn.new count) }
 {
     let mut eight = Eight::new(bytes);
     match decode_into(&mut eight, big, insn) {
         Ok(count) if count <= 8 => Some(count),
         _ => None,
+    }
+}
+
+/// The same, one of the frequent kinds first.
+#[inline(always)]
+fn decode_sized(bytes: u64, big: bool, insn: &mut Insn) -> Option<u8>
+    ensures { IfSome result (λ count. Spells bytes big insn.new count) }
+{
+    let mut eight = Eight::new(bytes);
+    match decode_frequent(&mut eight, big, insn) {
+        Some(count) if count <= 8 => Some(count),
+        _ => decode_any(bytes, big, insn),
+    }
+}
+
+/// The same in code of 16 bits.
+#[inline(never)]
+fn decode_16(bytes: u64, insn: &mut Insn) -> Option<u8>
+    ensures { IfSome result (λ count. Spells bytes false insn.new count) }
+{
+    decode_sized(bytes, false, insn)
+}
+
+/// The same in code of 32 bits.
+#[inline(never)]
+fn decode_32(bytes: u64, insn: &mut Insn) -> Option<u8>
+    ensures { IfSome result (λ count. Spells bytes true insn.new count) }
+{
+    decode_sized(bytes, true, insn)
+}
+
+/// The instruction at the front of eight bytes, where it has no more. The answer is its length.
+#[inline(always)]
+fn decode_eight(bytes: u64, big: bool, insn: &mut Insn) -> Option<u8>
+    ensures { IfSome result (λ count. Spells bytes big insn.new count) }
+{
+    if big {
+        decode_32(bytes, insn)
+    } else {
+        decode_16(bytes, insn)
     }
 }
 

@@ -55,57 +55,56 @@ fn is_port_string(op: Op) -> bool
 
 /// A data instruction.
 #[inline(always)]
-fn run_data<L: Linear, P: Ports>(
+pub(crate) fn run_data<L: Linear, P: Ports>(
     regs: &mut Regs,
     flags: &mut Flags,
     lin: &mut L,
     ports: &P,
     insn: &Insn,
     back: u32,
-) -> Result<Ran, Fault>
+) -> Result<Next, Fault>
     requires spelt { (bytes : List ℕ) × (big : Bool) × Spelt bytes big insn.now }
     requires runs { runs_data insn.now ≡ true }
     requires ready { IsSettled (whole regs.old flags.old) (L.seen lin.old) }
-    ensures { Runs (rules_of P.Ports) L.pick insn.now (whole regs.old flags.old) back (L.seen lin.old) ports.now result (whole regs.new flags.new) (L.seen lin.new) ports.now }
+    ensures { Runs (rules_of P.Ports) L.pick insn.now (whole regs.old flags.old) back (L.seen lin.old) ports.now (marked result true) (whole regs.new flags.new) (L.seen lin.new) ports.now }
 {
-    marked(exec_data::run(regs, flags, lin, insn, back), true)
+    exec_data::run(regs, flags, lin, insn, back)
 }
 
 /// An instruction of near flow, the stack or the flags.
 #[inline(always)]
-fn run_flow<L: Linear, P: Ports>(
+pub(crate) fn run_flow<L: Linear, P: Ports>(
     regs: &mut Regs,
     flags: &mut Flags,
     lin: &mut L,
     ports: &P,
     insn: &Insn,
     back: u32,
-) -> Result<Ran, Fault>
+) -> Result<Next, Fault>
     requires spelt { (bytes : List ℕ) × (big : Bool) × Spelt bytes big insn.now }
     requires runs { runs_flow insn.now ≡ true }
     requires ready { IsSettled (whole regs.old flags.old) (L.seen lin.old) }
-    ensures { Runs (rules_of P.Ports) L.pick insn.now (whole regs.old flags.old) back (L.seen lin.old) ports.now result (whole regs.new flags.new) (L.seen lin.new) ports.now }
+    ensures { Runs (rules_of P.Ports) L.pick insn.now (whole regs.old flags.old) back (L.seen lin.old) ports.now (marked result true) (whole regs.new flags.new) (L.seen lin.new) ports.now }
 {
-    marked(exec_flow::run(regs, flags, lin, insn, back), true)
+    exec_flow::run(regs, flags, lin, insn, back)
 }
 
 /// A string instruction.
 #[inline(always)]
-fn run_string<L: Linear, P: Ports>(
+pub(crate) fn run_string<L: Linear, P: Ports>(
     regs: &mut Regs,
     flags: &mut Flags,
     lin: &mut L,
     ports: &mut P,
     insn: &Insn,
     back: u32,
-) -> Result<Ran, Fault>
+) -> Result<Next, Fault>
     requires spelt { (bytes : List ℕ) × (big : Bool) × Spelt bytes big insn.now }
     requires runs { runs_string insn.now.op ≡ true }
     requires ready { IsSettled (whole regs.old flags.old) (L.seen lin.old) }
-    ensures { Runs (rules_of P.Ports) L.pick insn.now (whole regs.old flags.old) back (L.seen lin.old) ports.old result (whole regs.new flags.new) (L.seen lin.new) ports.new }
+    ensures { Runs (rules_of P.Ports) L.pick insn.now (whole regs.old flags.old) back (L.seen lin.old) ports.old (marked result (not (is_port_string insn.now.op))) (whole regs.new flags.new) (L.seen lin.new) ports.new }
 {
-    let answer = string_ops::run(regs, flags, lin, ports, insn);
-    marked(answer, !is_port_string(insn.op))
+    string_ops::run(regs, flags, lin, ports, insn)
 }
 
 /// A far instruction, which has EFLAGS whole, and has placed what it writes.
@@ -150,9 +149,10 @@ fn run_system<L: Linear, P: Ports>(
     marked(answer, false)
 }
 
-/// Runs an instruction whatever its mnemonic is: it is asked for its family.
+/// Runs an instruction, up to where what it holds is placed or dropped: it is asked for its family.
+/// `back` is the EIP behind it.
 #[inline(never)]
-fn run_any<L: Linear, P: Ports>(
+pub(crate) fn run_any<L: Linear, P: Ports>(
     regs: &mut Regs,
     flags: &mut Flags,
     lin: &mut L,
@@ -165,13 +165,14 @@ fn run_any<L: Linear, P: Ports>(
     ensures { Runs (rules_of P.Ports) L.pick insn.now (whole regs.old flags.old) back (L.seen lin.old) ports.old result (whole regs.new flags.new) (L.seen lin.new) ports.new }
 {
     if runs_data(insn) {
-        return run_data(regs, flags, lin, ports, insn, back);
+        return marked(run_data(regs, flags, lin, ports, insn, back), true);
     }
     if runs_flow(insn) {
-        return run_flow(regs, flags, lin, ports, insn, back);
+        return marked(run_flow(regs, flags, lin, ports, insn, back), true);
     }
     if runs_string(insn.op) {
-        return run_string(regs, flags, lin, ports, insn, back);
+        let answer = run_string(regs, flags, lin, ports, insn, back);
+        return marked(answer, !is_port_string(insn.op));
     }
     if runs_far(insn) {
         return run_far(regs, flags, lin, ports, insn, back);
@@ -180,64 +181,4 @@ fn run_any<L: Linear, P: Ports>(
         return run_system(regs, flags, lin, ports, insn, back);
     }
     Err(no_such())
-}
-
-/// Runs an instruction, up to where what it holds is placed or dropped. `back` is the EIP behind it.
-///
-/// The mnemonics of most programs come at once.
-#[tactic(auto, using(crate::proofs::Arithmetic::arithmetic_runs))]
-#[inline(always)]
-pub(crate) fn run<L: Linear, P: Ports>(
-    regs: &mut Regs,
-    flags: &mut Flags,
-    lin: &mut L,
-    ports: &mut P,
-    insn: &Insn,
-    back: u32,
-) -> Result<Ran, Fault>
-    requires spelt { (bytes : List ℕ) × (big : Bool) × Spelt bytes big insn.now }
-    requires ready { IsSettled (whole regs.old flags.old) (L.seen lin.old) }
-    ensures { Runs (rules_of P.Ports) L.pick insn.now (whole regs.old flags.old) back (L.seen lin.old) ports.old result (whole regs.new flags.new) (L.seen lin.new) ports.new }
-{
-    match insn.op {
-        Op::Mov => {
-            if runs_data(insn) {
-                return run_data(regs, flags, lin, ports, insn, back);
-            }
-        }
-        Op::Movzx
-        | Op::Movsx
-        | Op::Add
-        | Op::Or
-        | Op::Adc
-        | Op::Sbb
-        | Op::And
-        | Op::Sub
-        | Op::Xor
-        | Op::Cmp
-        | Op::Test
-        | Op::Inc
-        | Op::Dec
-        | Op::Neg
-        | Op::Not
-        | Op::Shl
-        | Op::Shr
-        | Op::Sar
-        | Op::Setcc(_) => {
-            return run_data(regs, flags, lin, ports, insn, back);
-        }
-        Op::Jmp | Op::Jcc(_) | Op::Call | Op::Ret | Op::Loop | Op::Push => {
-            return run_flow(regs, flags, lin, ports, insn, back);
-        }
-        Op::Pop => {
-            if runs_flow(insn) {
-                return run_flow(regs, flags, lin, ports, insn, back);
-            }
-        }
-        Op::Movs | Op::Cmps | Op::Stos | Op::Lods | Op::Scas => {
-            return run_string(regs, flags, lin, ports, insn, back);
-        }
-        _ => {}
-    }
-    run_any(regs, flags, lin, ports, insn, back)
 }

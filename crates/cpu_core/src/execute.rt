@@ -14,7 +14,7 @@ ghost use Rattle.cpu_core.specs.Executing.{Passes, Faults};
 ghost use Rattle.cpu_core.specs.Plain.{IsSettled};
 
 use crate::boundary::{RESUME, has, hold_after};
-use crate::dispatch::{Ran, run};
+use crate::dispatch::{Ran, run_any};
 use lazy_flags::Flags;
 use mdl_insn::{Insn, Op, Operand};
 use mdl_num::with_bit;
@@ -71,7 +71,7 @@ fn settle<L: Linear>(lin: &mut L, insn: &Insn, regs: &Regs, alone: bool)
 
 /// Runs an instruction: what it leaves is placed, or it faults, in the task whose registers are then
 /// left. `back` is the EIP behind it.
-#[inline(always)]
+#[inline(never)]
 pub(crate) fn execute<L: Linear, P: Ports>(
     regs: &mut Regs,
     flags: &mut Flags,
@@ -90,7 +90,7 @@ pub(crate) fn execute<L: Linear, P: Ports>(
     ensures ready { IsSettled (whole regs.new flags.new) (L.seen lin.new) }
     ensures a20 { (L.seen lin.new).physical.a20 ≡ (L.seen lin.old).physical.a20 }
 {
-    match run(regs, flags, lin, ports, insn, back) {
+    match run_any(regs, flags, lin, ports, insn, back) {
         Ok(ran) => {
             lin.commit();
             settle(lin, insn, regs, ran.alone);

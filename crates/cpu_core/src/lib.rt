@@ -4,6 +4,7 @@
 //! `mdl_step/specs/Step.antt` first, then `specs/Plain.antt`.
 #![tactic(auto)]
 
+mod between;
 mod boundary;
 mod causes;
 mod code;
@@ -16,5 +17,6 @@ mod seen;
 mod steps;
 #[cfg(test)]
 mod tests;
+mod usual;
 
 pub use cpu::Cpu;

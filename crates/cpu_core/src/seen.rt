@@ -24,14 +24,14 @@ impl<L: Linear, P: Ports> Cpu<L, P> {
     pub fn latches(&self) -> Latches
         ensures { result ≡ self.now.state.core.latches }
     {
-        self.latches
+        self.between.latches
     }
 
     /// What the processor does.
     pub fn activity(&self) -> Activity
         ensures { result ≡ self.now.state.core.activity }
     {
-        self.activity
+        self.between.activity
     }
 
     /// How many steps were made.

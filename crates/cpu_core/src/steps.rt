@@ -2,6 +2,8 @@
 
 ghost use Rattle.std.specs.Prelude.{◌≡◌, ◌<◌, ◌+◌, ◌-◌, ◌^◌, [], true, false};
 ghost use Rattle.std.specs.Bool.{OnTrue, OnFalse};
+ghost use Rattle.mdl_state.specs.declared.Activity.TheVariants.{Running};
+ghost use Rattle.mdl_state.specs.Boot.{clear_latches};
 ghost use Rattle.mdl_state.specs.Bytes.{bit};
 ghost use Rattle.mdl_state.specs.Choices.{Meets};
 ghost use Rattle.mdl_state.specs.Serving.{Policy};
@@ -15,7 +17,7 @@ ghost use Rattle.cpu_core.specs.Passing.{later};
 ghost use Rattle.cpu_core.specs.Rows.{told};
 ghost use Rattle.cpu_core.specs.Turns.{Makes};
 
-use crate::boundary::{Row, boundary, hits_here, is_execution, is_idle, lets_in, runs_on};
+use crate::boundary::{Row, boundary, hits_here, is_execution, is_idle, lets_in};
 use crate::cpu::Cpu;
 use crate::execute::is_traced;
 use debug_regs::is_any_enabled;
@@ -29,9 +31,11 @@ impl<L: Linear, P: Ports> Cpu<L, P> {
     fn is_usual(&self) -> bool
         ensures data { OnTrue result (data_breakpoints self.now.state.core.regs ≡ []) }
         ensures untraced { OnTrue result (bit self.now.state.core.regs.eflags TF ≡ false) }
+        ensures runs { OnTrue result (self.now.state.core.activity ≡ Running) }
+        ensures clear { OnTrue result (self.now.state.core.latches ≡ clear_latches) }
         ensures executes { OnTrue result (row_of (rules_of P.Ports) self.now ≡ rows.Execute) }
     {
-        if !runs_on(self.activity, &self.latches) {
+        if !self.between.is_calm() {
             return false;
         }
         if is_any_enabled(&self.regs) {
@@ -53,7 +57,13 @@ impl<L: Linear, P: Ports> Cpu<L, P> {
     {
         let wants = self.ports.wants_interrupt();
         let hits = hits_here(&self.regs);
-        boundary(self.activity, wants, hits, &self.regs, &self.latches)
+        boundary(
+            self.between.activity,
+            wants,
+            hits,
+            &self.regs,
+            &self.between.latches,
+        )
     }
 
     /// Makes the next step in every case.
@@ -122,7 +132,7 @@ impl<L: Linear, P: Ports> Cpu<L, P> {
         ensures passed { OnTrue result (self.new ≡ later steps self.old) }
         ensures unchanged { OnFalse result (self.new ≡ self.old) }
     {
-        if let Activity::Running = self.activity {
+        if let Activity::Running = self.between.activity {
             return false;
         }
         self.idle(steps)

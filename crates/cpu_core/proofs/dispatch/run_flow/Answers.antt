@@ -1,12 +1,7 @@
-use Rattle.std.proofs.Common.{sym, subst}
-use Rattle.std.specs.Prelude.{Result}
 use Rattle.mem_iface.specs.Rules.{rules_of}
-use Rattle.mdl_state.specs.declared.Fault.{Fault}
 use Rattle.mdl_effect.specs.FlowEffects.{flow_effect}
 use Rattle.mdl_step.proofs.EffectLaws.{effect_flow, flow_own}
 use Rattle.operands.specs.Whole.{whole}
-use Rattle.cpu_core.specs.Ran.{Runs}
-use Rattle.cpu_core.specs.declared.dispatch.Ran.{Ran}
 use Rattle.cpu_core.proofs.Families.{alone_runs, kept_whole, flow_mapped}
 use Rattle.cpu_core.proofs.dispatch.run_flow.Goals as goal
 
@@ -18,7 +13,6 @@ returns g c =
     let m = g.L.Linear.seen c.args.lin.now in
     let n = g.L.Linear.seen c.run.new.lin in
     let done = c.run.ensures in
-    subst (λ (r : Result Ran Fault). Runs (rules_of g.P.Ports) g.L.Linear.pick insn old c.args.back m c.args.ports.now r new n c.args.ports.now) (sym c.marked.ensures)
-    (alone_runs (rules_of g.P.Ports) g.L.Linear.pick insn old c.args.back m c.args.ports.now new n (flow_effect insn old c.args.back) c.run.result c.requires.ready (flow_own insn c.requires.runs)
+    alone_runs (rules_of g.P.Ports) g.L.Linear.pick insn old c.args.back m c.args.ports.now new n (flow_effect insn old c.args.back) c.run.result c.requires.ready (flow_own insn c.requires.runs)
     (effect_flow insn old c.args.back new.eflags c.requires.runs) done.run (kept_whole c.run.result c.args.regs.now c.run.new.regs c.args.flags.now c.run.new.flags done.unchanged) done.steady
-    (λ r k. flow_mapped insn r k c.requires.runs) done.keeps)
+    (λ r k. flow_mapped insn r k c.requires.runs) done.keeps

@@ -1,5 +1,6 @@
 use Rattle.std.proofs.Common.{◌≡◌, sym, ap, subst, ◌∙◌}
 use Rattle.mdl_state.specs.declared.Regs.{Regs}
+use Rattle.mdl_state.specs.declared.Latches.{Latches}
 use Rattle.mdl_state.specs.State.{Mem, Core}
 use Rattle.mdl_state.specs.Watches.{watching}
 use Rattle.mdl_state.specs.Machine.{Machine}
@@ -40,15 +41,16 @@ invariant_of-self g c =
 pub returns-clause-delivered : goal.returns-clause-delivered
 returns-clause-delivered g c =
     let inside = c.self.inside in
-    let m : Machine _ = record { state = record { core = record { regs = whole inside.regs inside.flags; activity = inside.activity; latches = inside.latches; steps = inside.steps }; mem = watching (g.L.Linear.seen inside.code.inside.lin) inside.code.watch.items inside.code.hits }; board = inside.ports } in
+    let m : Machine _ = record { state = record { core = record { regs = whole inside.regs inside.flags; activity = inside.between.activity; latches = inside.between.latches; steps = inside.steps }; mem = watching (g.L.Linear.seen inside.code.inside.lin) inside.code.watch.items inside.code.hits }; board = inside.ports } in
     let packed = record inside.regs { eflags = c.pack-self-inside.result } in
     let now = c.deliver-delivered in
     let new = now.new.regs in
     let n = watching (g.L.Linear.seen now.new.lin.inside.lin) now.new.lin.watch.items now.new.lin.hits in
     let before : packed ≡ m.state.core.regs = ap (λ e. record inside.regs { eflags = e }) c.pack-self-inside.ensures in
-    let left : Core = record m.state.core { regs = whole new c.unpack-self-inside.result; activity = c.activity_at-self-inside.result; latches = record inside.latches { pending = c.pending_at-self-inside.result } } in
+    let left : Core = record m.state.core { regs = whole new c.unpack-self-inside.result; activity = c.new-self-inside.result.activity; latches = c.new-self-inside.result.latches } in
     subst (λ (x : Machine _). delivered (by_pick g.L.Linear.pick) c.args.cause x.state.core x.state.mem ≡ (Passed left, n)) c.self.view_is
     (ap (λ (w : Outcome Arrival × Mem). on w (λ there k. (Passed (arrived m.state.core there), k)))
     (ap (λ (r : Regs). deliver_by_gate (by_pick g.L.Linear.pick) c.args.cause r m.state.mem) (sym before) ∙ sym now.ensures.run)
-    ∙ ap (λ (k : Core). (Passed k, n)) (arrived_as m.state.core now.result new (whole new c.unpack-self-inside.result) c.activity_at-self-inside.result c.pending_at-self-inside.result
-    (ap (whole new) c.unpack-self-inside.ensures ∙ whole_unpacked new) (c.activity_at-self-inside.ensures new) (c.pending_at-self-inside.ensures new)))
+    ∙ ap (λ (k : Core). (Passed k, n)) (arrived_as m.state.core now.result new (whole new c.unpack-self-inside.result) c.new-self-inside.result.activity c.pending_at.result
+    (ap (whole new) c.unpack-self-inside.ensures ∙ whole_unpacked new) (c.new-self-inside.ensures.activity ∙ c.activity_at.ensures new) (c.pending_at.ensures new)
+    ∙ ap (λ (l : Latches). record left { latches = l }) (sym c.new-self-inside.ensures.latches)))

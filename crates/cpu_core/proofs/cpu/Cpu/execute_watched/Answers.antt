@@ -43,7 +43,7 @@ returns-in-Ok-answer-clause-executed g c =
     let quiet = c.self.invariant.quiet in
     let there = g.L.Linear.seen inside.code.inside.lin in
     let here = g.L.Linear.seen c.decode_far.new.code.lin in
-    let m : Machine _ = record { state = record { core = record { regs = whole inside.regs inside.flags; activity = inside.activity; latches = inside.latches; steps = inside.steps }; mem = watching there ws hits }; board = inside.ports } in
+    let m : Machine _ = record { state = record { core = record { regs = whole inside.regs inside.flags; activity = inside.between.activity; latches = inside.between.latches; steps = inside.steps }; mem = watching there ws hits }; board = inside.ports } in
     let mid = watching here ws hits in
     let looks : c.data_breakpoints.result.items ≡ data_breakpoints m.state.core.regs = c.data_breakpoints.ensures ∙ sym (whole_data inside.regs inside.flags) in
     let looked = ap (λ s. watching (g.L.Linear.seen s.inside.lin) s.watch.items s.hits) c.look_for.ensures ∙ ap (λ (vs : List Watch). watching here vs 0) looks in
@@ -72,7 +72,7 @@ returns-in-Err-answer-clause-executed g c =
     let quiet = c.self.invariant.quiet in
     let there = g.L.Linear.seen inside.code.inside.lin in
     let here = g.L.Linear.seen c.decode_far.new.code.lin in
-    let m : Machine _ = record { state = record { core = record { regs = whole inside.regs inside.flags; activity = inside.activity; latches = inside.latches; steps = inside.steps }; mem = watching there ws hits }; board = inside.ports } in
+    let m : Machine _ = record { state = record { core = record { regs = whole inside.regs inside.flags; activity = inside.between.activity; latches = inside.between.latches; steps = inside.steps }; mem = watching there ws hits }; board = inside.ports } in
     let mid = watching here ws hits in
     let looks : c.data_breakpoints.result.items ≡ data_breakpoints m.state.core.regs = c.data_breakpoints.ensures ∙ sym (whole_data inside.regs inside.flags) in
     let looked = ap (λ s. watching (g.L.Linear.seen s.inside.lin) s.watch.items s.hits) c.look_for.ensures ∙ ap (λ (vs : List Watch). watching here vs 0) looks in

@@ -1,9 +1,9 @@
 use Rattle.std.proofs.Common.{◌≡◌, true, rules}
 use Rattle.cpu_core.specs.Families.{is_arithmetic}
 use Rattle.cpu_core.proofs.Arithmetic.{arithmetic_runs}
-use Rattle.cpu_core.proofs.dispatch.run.Goals as goal
+use Rattle.cpu_core.proofs.usual.execute_usual.Goals as goal
 
-pub run_data-requires-in-Movzx-clause-runs : goal.run_data-requires-in-Movzx-clause-runs
-run_data-requires-in-Movzx-clause-runs g c =
+pub end_data-requires-in-Movzx-clause-runs : goal.end_data-requires-in-Movzx-clause-runs
+end_data-requires-in-Movzx-clause-runs g c =
     let arithmetic : is_arithmetic c.args.insn.now.op ≡ true = search rules in
     arithmetic_runs c.requires.spelt.0 c.requires.spelt.1 c.args.insn.now c.requires.spelt.2 arithmetic
