@@ -1,4 +1,5 @@
 pub mod Failing
+pub mod Kinds
 pub mod Last
 pub mod Places
 pub mod Reads

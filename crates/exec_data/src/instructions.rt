@@ -16,6 +16,7 @@ ghost use Rattle.exec_data.specs.Places.{is_placed};
 
 use crate::arithmetic::{change_place, combine_place, compare_values};
 use crate::conditions::set_place;
+use crate::kinds::DataKind;
 use crate::memory_run::{run_memory, run_move};
 use crate::plain::is_plain_data;
 use crate::plain_run::run_formed;
@@ -106,4 +107,25 @@ pub fn run<L: Linear>(
     ensures keeps { Keeps (L.seen lin.old) (L.seen lin.new) }
 {
     run_by_mnemonic(regs, flags, lin, insn)
+}
+
+/// The same, of a kind: what is compiled runs that alone.
+#[inline(always)]
+pub fn run_kind<K: DataKind, L: Linear>(
+    regs: &mut Regs,
+    flags: &mut Flags,
+    lin: &mut L,
+    insn: &Insn,
+) -> Result<Next, Fault>
+    requires kind { K.takes insn.now.op ≡ true }
+    requires spelt { (bytes : List ℕ) × (big : Bool) × Spelt bytes big insn.now }
+    requires runs { IsTrue (runs_data insn.now) }
+    requires room { HasRoom (L.seen lin.old) 4 }
+    ensures run { (ran result (whole regs.new flags.new), L.seen lin.new)
+        ≡ tried (by_pick L.pick) 0 (data_effect insn.now (whole regs.old flags.old) (whole regs.new flags.new).eflags) (L.seen lin.old) }
+    ensures unchanged { OnErr result ((regs.new ≡ regs.old) × (flags.new ≡ flags.old)) }
+    ensures steady { Steady (whole regs.old flags.old) (whole regs.new flags.new) }
+    ensures keeps { Keeps (L.seen lin.old) (L.seen lin.new) }
+{
+    K::execute(regs, flags, lin, insn)
 }

@@ -16,6 +16,7 @@ mod bounds;
 mod conditions;
 mod far_pointers;
 mod instructions;
+mod kinds;
 mod memory_run;
 mod moves;
 mod pairs;
@@ -26,6 +27,7 @@ mod reads;
 mod segments;
 mod shifts;
 
-pub use instructions::run;
+pub use instructions::{run, run_kind};
+pub use kinds::{Changes, Comparisons, Conditions, DataKind, Moves, Shifts, Sums};
 pub use plain::{is_plain_data, runs_data};
 pub use plain_run::run_plain;

@@ -18,3 +18,20 @@ is_branch ops.Loope = true
 is_branch ops.Loopne = true
 is_branch ops.Jcxz = true
 is_branch _ = false
+
+-- kinds of mnemonics
+abbrev pub is_jump : Op → Bool
+is_jump ops.Jmp = true
+is_jump _ = false
+
+abbrev pub is_call : Op → Bool
+is_call ops.Call = true
+is_call _ = false
+
+abbrev pub is_return : Op → Bool
+is_return ops.Ret = true
+is_return _ = false
+
+abbrev pub is_condition : Op → Bool
+is_condition (ops.Jcc number) = true
+is_condition _ = false

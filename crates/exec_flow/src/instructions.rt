@@ -19,6 +19,7 @@ use crate::calls::{call, return_near};
 use crate::flags::{load_ah, set_carry, set_direction, store_ah};
 use crate::frames::{enter, leave};
 use crate::jumps::{jump, jump_if};
+use crate::kinds::FlowKind;
 use crate::loops::{jump_if_none, repeat};
 use crate::pops::{pop_operand, pop_registers};
 use crate::pushes::{is_segment, push_operand, push_registers};
@@ -184,4 +185,26 @@ pub fn run<L: Linear>(
     ensures keeps { Keeps (L.seen lin.old) (L.seen lin.new) }
 {
     run_formed(regs, flags, lin, insn, back)
+}
+
+/// The same, of a kind: what is compiled runs that alone.
+#[inline(always)]
+pub fn run_kind<K: FlowKind, L: Linear>(
+    regs: &mut Regs,
+    flags: &mut Flags,
+    lin: &mut L,
+    insn: &Insn,
+    back: u32,
+) -> Result<Next, Fault>
+    requires kind { K.takes insn.now.op ≡ true }
+    requires spelt { (bytes : List ℕ) × (big : Bool) × Spelt bytes big insn.now }
+    requires runs { IsTrue (runs_flow insn.now) }
+    requires room { HasRoom (L.seen lin.old) 128 }
+    ensures run { (ran result (whole regs.new flags.new), L.seen lin.new)
+        ≡ tried (by_pick L.pick) 0 (flow_effect insn.now (whole regs.old flags.old) back) (L.seen lin.old) }
+    ensures unchanged { OnErr result ((regs.new ≡ regs.old) × (flags.new ≡ flags.old)) }
+    ensures steady { Steady (whole regs.old flags.old) (whole regs.new flags.new) }
+    ensures keeps { Keeps (L.seen lin.old) (L.seen lin.new) }
+{
+    K::execute(regs, flags, lin, insn, back)
 }

@@ -10,8 +10,10 @@ mod flags;
 mod frames;
 mod instructions;
 mod jumps;
+mod kinds;
 mod loops;
 mod pops;
 mod pushes;
 
-pub use instructions::{run, runs_flow};
+pub use instructions::{run, run_kind, runs_flow};
+pub use kinds::{Calls, Conditions, FlowKind, Jumps, Returns};
