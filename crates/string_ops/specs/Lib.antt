@@ -1,2 +1,3 @@
 pub mod PortStrings
 pub mod Repeats
+pub mod Kinds

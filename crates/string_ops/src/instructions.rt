@@ -11,7 +11,7 @@ ghost use Rattle.mdl_effect.specs.StringEffects.{runs_string, string_plan};
 ghost use Rattle.mdl_cpu.specs.Steady.{Steady};
 ghost use Rattle.operands.specs.Whole.{whole, ran_at, KeepsOther};
 
-use crate::iterations::iterate;
+use crate::kinds::{AnyString, Loads, Moves, Stores, StringKind};
 use crate::repeats::repeat;
 use lazy_flags::Flags;
 use mdl_insn::{Insn, Op, Rep};
@@ -32,13 +32,14 @@ pub fn runs_string(op: Op) -> bool
 /// The instruction by its repeat prefix.
 #[inline(always)]
 #[tactic(auto, unfolding(mdl_effect::specs::StringEffects::string_plan))]
-fn run_by_prefix<L: Linear, P: Ports>(
+fn run_by_prefix<K: StringKind, L: Linear, P: Ports>(
     regs: &mut Regs,
     flags: &mut Flags,
     lin: &mut L,
     ports: &mut P,
     insn: &Insn,
 ) -> Result<Next, Fault>
+    requires kind { K.takes insn.now.op ≡ true }
     requires runs { runs_string insn.now.op ≡ true }
     requires room { HasRoom (L.seen lin.old) 4 }
     ensures run { (given : ℕ) × (access : PortUse) × Accesses (rules_of P.Ports) access given ports.old ports.new
@@ -49,20 +50,21 @@ fn run_by_prefix<L: Linear, P: Ports>(
     ensures keeps { Keeps (L.seen lin.old) (L.seen lin.new) }
 {
     match insn.rep {
-        Rep::Plain => iterate(regs, flags, lin, ports, insn),
-        Rep::Equal | Rep::NotEqual => repeat(regs, flags, lin, ports, insn),
+        Rep::Plain => K::iterate(regs, flags, lin, ports, insn),
+        Rep::Equal | Rep::NotEqual => repeat::<K, L, P>(regs, flags, lin, ports, insn),
     }
 }
 
 /// The same in two copies, each of which is compiled for one address size.
 #[inline(always)]
-fn run_by_width<L: Linear, P: Ports>(
+fn run_by_width<K: StringKind, L: Linear, P: Ports>(
     regs: &mut Regs,
     flags: &mut Flags,
     lin: &mut L,
     ports: &mut P,
     insn: &Insn,
 ) -> Result<Next, Fault>
+    requires kind { K.takes insn.now.op ≡ true }
     requires runs { runs_string insn.now.op ≡ true }
     requires room { HasRoom (L.seen lin.old) 4 }
     ensures run { (given : ℕ) × (access : PortUse) × Accesses (rules_of P.Ports) access given ports.old ports.new
@@ -73,9 +75,9 @@ fn run_by_width<L: Linear, P: Ports>(
     ensures keeps { Keeps (L.seen lin.old) (L.seen lin.new) }
 {
     if insn.wide {
-        return run_by_prefix(regs, flags, lin, ports, insn);
+        return run_by_prefix::<K, L, P>(regs, flags, lin, ports, insn);
     }
-    run_by_prefix(regs, flags, lin, ports, insn)
+    run_by_prefix::<K, L, P>(regs, flags, lin, ports, insn)
 }
 
 /// One iteration of a string instruction in an attempt: its registers and held writes and the port
@@ -102,9 +104,9 @@ pub fn run<L: Linear, P: Ports>(
     ensures keeps { Keeps (L.seen lin.old) (L.seen lin.new) }
 {
     match insn.op {
-        Op::Movs => run_by_width(regs, flags, lin, ports, insn),
-        Op::Stos => run_by_width(regs, flags, lin, ports, insn),
-        Op::Lods => run_by_width(regs, flags, lin, ports, insn),
-        _ => run_by_prefix(regs, flags, lin, ports, insn),
+        Op::Movs => run_by_width::<Moves, L, P>(regs, flags, lin, ports, insn),
+        Op::Stos => run_by_width::<Stores, L, P>(regs, flags, lin, ports, insn),
+        Op::Lods => run_by_width::<Loads, L, P>(regs, flags, lin, ports, insn),
+        _ => run_by_prefix::<AnyString, L, P>(regs, flags, lin, ports, insn),
     }
 }

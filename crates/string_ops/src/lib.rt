@@ -8,6 +8,7 @@
 mod indexes;
 mod instructions;
 mod iterations;
+mod kinds;
 mod port_strings;
 mod repeats;
 mod strings;

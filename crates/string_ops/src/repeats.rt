@@ -13,7 +13,7 @@ ghost use Rattle.mdl_effect.specs.StringEffects.{runs_string, compares, is_wante
 ghost use Rattle.operands.specs.Whole.{whole, ran_at, KeepsOther};
 ghost use Rattle.string_ops.specs.Repeats.{goes_on, counted};
 
-use crate::iterations::iterate;
+use crate::kinds::StringKind;
 use lazy_flags::Flags;
 use mdl_insn::{Insn, Op, Rep};
 use mdl_num::ZF;
@@ -74,13 +74,14 @@ fn count(regs: &mut Regs, flags: &Flags, rep: Rep, compares: bool, wide: bool) -
 /// One iteration of an instruction with a repeat prefix, unless the count is 0.
 // `Equal` stands for either prefix; which one it is counts in `goes_on` alone.
 #[inline(always)]
-pub(crate) fn repeat<L: Linear, P: Ports>(
+pub(crate) fn repeat<K: StringKind, L: Linear, P: Ports>(
     regs: &mut Regs,
     flags: &mut Flags,
     lin: &mut L,
     ports: &mut P,
     insn: &Insn,
 ) -> Result<Next, Fault>
+    requires kind { K.takes insn.now.op ≡ true }
     requires runs { runs_string insn.now.op ≡ true }
     requires room { HasRoom (L.seen lin.old) 4 }
     ensures run { (given : ℕ) × (access : PortUse) × Accesses (rules_of P.Ports) access given ports.old ports.new
@@ -95,6 +96,6 @@ pub(crate) fn repeat<L: Linear, P: Ports>(
     if count_of(regs, wide) == 0 {
         return Ok(Next::Follow);
     }
-    iterate(regs, flags, lin, ports, insn)?;
+    K::iterate(regs, flags, lin, ports, insn)?;
     Ok(count(regs, flags, rep, compares, wide))
 }

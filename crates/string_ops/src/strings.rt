@@ -14,6 +14,7 @@ ghost use Rattle.mdl_effect.specs.StringEffects.{read_source, read_destination, 
 ghost use Rattle.mdl_effect.specs.StringEffects.{move_string_plan, compare_strings_plan, store_string_plan, load_string_plan, scan_string_plan, iterate_plan};
 ghost use Rattle.mdl_effect.specs.StringEffects.{runs_string};
 ghost use Rattle.operands.specs.Whole.{whole, after, KeepsOther};
+ghost use Rattle.string_ops.specs.Kinds.{is_move, is_store, is_load};
 ghost use Rattle.string_ops.specs.PortStrings.{uses_port};
 
 use crate::indexes::{destination_index, pass_both, pass_destination, pass_source, source_index};
@@ -174,6 +175,75 @@ fn scan_string<L: Linear>(
     compare(flags, insn.size, reg(regs, ACCUMULATOR, insn.size), value);
     pass_destination(regs, insn.wide, insn.size);
     Ok(())
+}
+
+/// MOVS, as it is iterated.
+#[tactic(auto, using(mdl_state::specs::Rules::attempts), unfolding(mdl_effect::specs::StringEffects::iterate_plan))]
+#[inline(always)]
+pub(crate) fn iterate_move<L: Linear>(
+    regs: &mut Regs,
+    flags: &Flags,
+    lin: &mut L,
+    insn: &Insn,
+) -> Result<(), Fault>
+    requires kind { is_move insn.now.op ≡ true }
+    requires room { HasRoom (L.seen lin.old) 4 }
+    ensures run { (after result (whole regs.new flags.now), L.seen lin.new)
+        ≡ tried (by_pick L.pick) 0 (iterate_plan insn.now (whole regs.old flags.now) (whole regs.new flags.now).eflags) (L.seen lin.old) }
+    ensures kept { KeepsOther regs.old regs.new }
+    ensures unchanged { OnErr result (regs.new ≡ regs.old) }
+    ensures keeps { Keeps (L.seen lin.old) (L.seen lin.new) }
+{
+    match insn.op {
+        Op::Movs => move_string(regs, lin, insn),
+        _ => unreachable!(),
+    }
+}
+
+/// STOS, as it is iterated.
+#[tactic(auto, using(mdl_state::specs::Rules::attempts), unfolding(mdl_effect::specs::StringEffects::iterate_plan))]
+#[inline(always)]
+pub(crate) fn iterate_store<L: Linear>(
+    regs: &mut Regs,
+    flags: &Flags,
+    lin: &mut L,
+    insn: &Insn,
+) -> Result<(), Fault>
+    requires kind { is_store insn.now.op ≡ true }
+    requires room { HasRoom (L.seen lin.old) 4 }
+    ensures run { (after result (whole regs.new flags.now), L.seen lin.new)
+        ≡ tried (by_pick L.pick) 0 (iterate_plan insn.now (whole regs.old flags.now) (whole regs.new flags.now).eflags) (L.seen lin.old) }
+    ensures kept { KeepsOther regs.old regs.new }
+    ensures unchanged { OnErr result (regs.new ≡ regs.old) }
+    ensures keeps { Keeps (L.seen lin.old) (L.seen lin.new) }
+{
+    match insn.op {
+        Op::Stos => store_string(regs, lin, insn),
+        _ => unreachable!(),
+    }
+}
+
+/// LODS, as it is iterated.
+#[tactic(auto, using(mdl_state::specs::Rules::attempts), unfolding(mdl_effect::specs::StringEffects::iterate_plan))]
+#[inline(always)]
+pub(crate) fn iterate_load<L: Linear>(
+    regs: &mut Regs,
+    flags: &Flags,
+    lin: &mut L,
+    insn: &Insn,
+) -> Result<(), Fault>
+    requires kind { is_load insn.now.op ≡ true }
+    requires room { HasRoom (L.seen lin.old) 4 }
+    ensures run { (after result (whole regs.new flags.now), L.seen lin.new)
+        ≡ tried (by_pick L.pick) 0 (iterate_plan insn.now (whole regs.old flags.now) (whole regs.new flags.now).eflags) (L.seen lin.old) }
+    ensures kept { KeepsOther regs.old regs.new }
+    ensures unchanged { OnErr result (regs.new ≡ regs.old) }
+    ensures keeps { Keeps (L.seen lin.old) (L.seen lin.new) }
+{
+    match insn.op {
+        Op::Lods => load_string(regs, lin, insn),
+        _ => unreachable!(),
+    }
 }
 
 /// One iteration of an instruction that uses no port, by its mnemonic.
