@@ -228,7 +228,7 @@ impl<L: Linear, P: Ports> Cpu<L, P> {
         let ended = execute_usual(
             &mut self.regs,
             &mut self.flags,
-            &mut self.code.inside.lin,
+            &mut self.code.inside,
             &mut self.ports,
             &self.insn,
             back,

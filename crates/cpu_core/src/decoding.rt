@@ -1,6 +1,7 @@
 //! The instruction at CS:EIP.
 
-ghost use Rattle.std.specs.Prelude.{◌≡◌, ℕ, true, false, IfOk, IfErr, IfSome};
+ghost use Rattle.std.specs.Prelude.{◌≡◌, ℕ, [], true, false, IfOk, IfErr, IfSome};
+ghost use Rattle.mdl_insn.specs.Prefixes.{setting};
 ghost use Rattle.mdl_state.specs.Accesses.{Keeps};
 ghost use Rattle.mdl_state.specs.Serving.{by_pick};
 ghost use Rattle.mdl_step.specs.Fetching.{Instruction, Refused, Fetches, is_wide};
@@ -8,7 +9,7 @@ ghost use Rattle.operands.specs.Whole.{whole};
 ghost use Rattle.cpu_core.specs.Window.{Spells, fault_of};
 
 use crate::code::{Code, Eight};
-use insn_decode::{Undecoded, decode_frequent, decode_into};
+use insn_decode::{Plain16, Plain32, Prefixes, Undecoded, decode_frequent, decode_into};
 use mdl_insn::Insn;
 use mdl_state::{Fault, Regs, Seg};
 use mem_iface::Linear;
@@ -47,13 +48,14 @@ fn decode_any(bytes: u64, big: bool, insn: &mut Insn) -> Option<u8>
     }
 }
 
-/// The same, one of the frequent kinds first.
+/// The same, one of the frequent kinds first. `given` tells the size of code as `big` does.
 #[inline(always)]
-fn decode_sized(bytes: u64, big: bool, insn: &mut Insn) -> Option<u8>
+fn decode_sized<G: Prefixes>(bytes: u64, big: bool, given: &G, insn: &mut Insn) -> Option<u8>
+    requires { G.gives given.now ≡ setting big [] }
     ensures { IfSome result (λ count. Spells bytes big insn.new count) }
 {
     let mut eight = Eight::new(bytes);
-    match decode_frequent(&mut eight, big, insn) {
+    match decode_frequent(&mut eight, big, given, insn) {
         Some(count) if count <= 8 => Some(count),
         _ => decode_any(bytes, big, insn),
     }
@@ -64,7 +66,7 @@ fn decode_sized(bytes: u64, big: bool, insn: &mut Insn) -> Option<u8>
 fn decode_16(bytes: u64, insn: &mut Insn) -> Option<u8>
     ensures { IfSome result (λ count. Spells bytes false insn.new count) }
 {
-    decode_sized(bytes, false, insn)
+    decode_sized(bytes, false, &Plain16, insn)
 }
 
 /// The same in code of 32 bits.
@@ -72,7 +74,7 @@ fn decode_16(bytes: u64, insn: &mut Insn) -> Option<u8>
 fn decode_32(bytes: u64, insn: &mut Insn) -> Option<u8>
     ensures { IfSome result (λ count. Spells bytes true insn.new count) }
 {
-    decode_sized(bytes, true, insn)
+    decode_sized(bytes, true, &Plain32, insn)
 }
 
 /// The instruction at the front of eight bytes, where it has no more. The answer is its length.

@@ -13,9 +13,9 @@ ghost use Rattle.cpu_core.specs.Families.{is_port_string};
 ghost use Rattle.cpu_core.specs.Plain.{IsSettled};
 ghost use Rattle.cpu_core.specs.Ran.{marked, Runs};
 
-use exec_data::runs_data;
+use exec_data::{DataKind, runs_data};
 use exec_far::runs_far;
-use exec_flow::runs_flow;
+use exec_flow::{FlowKind, runs_flow};
 use exec_system::runs_system;
 use lazy_flags::Flags;
 use mdl_insn::{Insn, Op};
@@ -71,6 +71,25 @@ pub(crate) fn run_data<L: Linear, P: Ports>(
     exec_data::run(regs, flags, lin, insn, back)
 }
 
+/// One of a kind.
+#[inline(always)]
+pub(crate) fn run_data_kind<K: DataKind, L: Linear, P: Ports>(
+    regs: &mut Regs,
+    flags: &mut Flags,
+    lin: &mut L,
+    ports: &P,
+    insn: &Insn,
+    back: u32,
+) -> Result<Next, Fault>
+    requires kind { K.takes insn.now.op ≡ true }
+    requires spelt { (bytes : List ℕ) × (big : Bool) × Spelt bytes big insn.now }
+    requires runs { runs_data insn.now ≡ true }
+    requires ready { IsSettled (whole regs.old flags.old) (L.seen lin.old) }
+    ensures { Runs (rules_of P.Ports) L.pick insn.now (whole regs.old flags.old) back (L.seen lin.old) ports.now (marked result true) (whole regs.new flags.new) (L.seen lin.new) ports.now }
+{
+    exec_data::run_kind::<K, L>(regs, flags, lin, insn)
+}
+
 /// An instruction of near flow, the stack or the flags.
 #[inline(always)]
 pub(crate) fn run_flow<L: Linear, P: Ports>(
@@ -87,6 +106,25 @@ pub(crate) fn run_flow<L: Linear, P: Ports>(
     ensures { Runs (rules_of P.Ports) L.pick insn.now (whole regs.old flags.old) back (L.seen lin.old) ports.now (marked result true) (whole regs.new flags.new) (L.seen lin.new) ports.now }
 {
     exec_flow::run(regs, flags, lin, insn, back)
+}
+
+/// One of a kind.
+#[inline(always)]
+pub(crate) fn run_flow_kind<K: FlowKind, L: Linear, P: Ports>(
+    regs: &mut Regs,
+    flags: &mut Flags,
+    lin: &mut L,
+    ports: &P,
+    insn: &Insn,
+    back: u32,
+) -> Result<Next, Fault>
+    requires kind { K.takes insn.now.op ≡ true }
+    requires spelt { (bytes : List ℕ) × (big : Bool) × Spelt bytes big insn.now }
+    requires runs { runs_flow insn.now ≡ true }
+    requires ready { IsSettled (whole regs.old flags.old) (L.seen lin.old) }
+    ensures { Runs (rules_of P.Ports) L.pick insn.now (whole regs.old flags.old) back (L.seen lin.old) ports.now (marked result true) (whole regs.new flags.new) (L.seen lin.new) ports.now }
+{
+    exec_flow::run_kind::<K, L>(regs, flags, lin, insn, back)
 }
 
 /// A string instruction.

@@ -12,10 +12,11 @@ ghost use Rattle.cpu_core.specs.Plain.{IsSettled};
 ghost use Rattle.cpu_core.specs.Ran.{marked, ended};
 ghost use Rattle.cpu_core.specs.Ends.{ended_by, left_behind, Ends};
 
-use crate::dispatch::{Ran, run_data, run_flow, run_string};
+use crate::code::Code;
+use crate::dispatch::{Ran, run_data, run_data_kind, run_flow, run_flow_kind, run_string};
 use crate::execute::{execute, land};
-use exec_data::runs_data;
-use exec_flow::runs_flow;
+use exec_data::{Changes, Comparisons, DataKind, Moves, Shifts, Sums, runs_data};
+use exec_flow::{Calls, FlowKind, Jumps, Returns, runs_flow};
 use lazy_flags::Flags;
 use mdl_insn::{Insn, Op};
 use mdl_state::{Fault, Next, Regs};
@@ -112,6 +113,27 @@ fn end_data<L: Linear, P: Ports>(
     end(regs, lin, insn.op, answer, back)
 }
 
+/// One of a kind.
+#[inline(always)]
+fn end_data_kind<K: DataKind, L: Linear, P: Ports>(
+    regs: &mut Regs,
+    flags: &mut Flags,
+    lin: &mut L,
+    ports: &P,
+    insn: &Insn,
+    back: u32,
+) -> Ended
+    requires kind { K.takes insn.now.op ≡ true }
+    requires runs { runs_data insn.now ≡ true }
+    requires spelt { (bytes : List ℕ) × (big : Bool) × Spelt bytes big insn.now }
+    requires ready { IsSettled (whole regs.old flags.old) (L.seen lin.old) }
+    ensures ends { Ends (rules_of P.Ports) L.pick insn.now (whole regs.old flags.old) back (L.seen lin.old) ports.now result (whole regs.new flags.new) (L.seen lin.new) ports.now }
+    ensures a20 { (L.seen lin.new).physical.a20 ≡ (L.seen lin.old).physical.a20 }
+{
+    let answer = run_data_kind::<K, L, P>(regs, flags, lin, ports, insn, back);
+    end(regs, lin, insn.op, answer, back)
+}
+
 /// An instruction of near flow, the stack or the flags.
 #[inline(always)]
 fn end_flow<L: Linear, P: Ports>(
@@ -129,6 +151,27 @@ fn end_flow<L: Linear, P: Ports>(
     ensures a20 { (L.seen lin.new).physical.a20 ≡ (L.seen lin.old).physical.a20 }
 {
     let answer = run_flow(regs, flags, lin, ports, insn, back);
+    end(regs, lin, insn.op, answer, back)
+}
+
+/// One of a kind.
+#[inline(always)]
+fn end_flow_kind<K: FlowKind, L: Linear, P: Ports>(
+    regs: &mut Regs,
+    flags: &mut Flags,
+    lin: &mut L,
+    ports: &P,
+    insn: &Insn,
+    back: u32,
+) -> Ended
+    requires kind { K.takes insn.now.op ≡ true }
+    requires runs { runs_flow insn.now ≡ true }
+    requires spelt { (bytes : List ℕ) × (big : Bool) × Spelt bytes big insn.now }
+    requires ready { IsSettled (whole regs.old flags.old) (L.seen lin.old) }
+    ensures ends { Ends (rules_of P.Ports) L.pick insn.now (whole regs.old flags.old) back (L.seen lin.old) ports.now result (whole regs.new flags.new) (L.seen lin.new) ports.now }
+    ensures a20 { (L.seen lin.new).physical.a20 ≡ (L.seen lin.old).physical.a20 }
+{
+    let answer = run_flow_kind::<K, L, P>(regs, flags, lin, ports, insn, back);
     end(regs, lin, insn.op, answer, back)
 }
 
@@ -171,61 +214,50 @@ fn end_any<L: Linear, P: Ports>(
     other(execute(regs, flags, lin, ports, insn, back))
 }
 
-/// Executes an instruction. The mnemonics of most programs come at once. `back` is the EIP behind it.
+/// Executes an instruction. Those of most programs come at once, each kind for itself. `back` is the EIP
+/// behind it.
+#[rattlefmt::skip]
 #[tactic(auto, using(crate::proofs::Arithmetic::arithmetic_runs))]
 #[inline(always)]
 pub(crate) fn execute_usual<L: Linear, P: Ports>(
     regs: &mut Regs,
     flags: &mut Flags,
-    lin: &mut L,
+    code: &mut Code<L>,
     ports: &mut P,
     insn: &Insn,
     back: u32,
 ) -> Ended
     requires spelt { (bytes : List ℕ) × (big : Bool) × Spelt bytes big insn.now }
-    requires ready { IsSettled (whole regs.old flags.old) (L.seen lin.old) }
-    ensures ends { Ends (rules_of P.Ports) L.pick insn.now (whole regs.old flags.old) back (L.seen lin.old) ports.old result (whole regs.new flags.new) (L.seen lin.new) ports.new }
-    ensures a20 { (L.seen lin.new).physical.a20 ≡ (L.seen lin.old).physical.a20 }
+    requires ready { IsSettled (whole regs.old flags.old) (L.seen code.old.lin) }
+    ensures ends { Ends (rules_of P.Ports) L.pick insn.now (whole regs.old flags.old) back (L.seen code.old.lin) ports.old result (whole regs.new flags.new) (L.seen code.new.lin) ports.new }
+    ensures a20 { (L.seen code.new.lin).physical.a20 ≡ (L.seen code.old.lin).physical.a20 }
 {
     match insn.op {
-        Op::Mov => {
-            if runs_data(insn) {
-                return end_data(regs, flags, lin, ports, insn, back);
-            }
+        Op::Mov => if runs_data(insn) {
+            return end_data_kind::<Moves, L, P>(regs, flags, &mut code.lin, ports, insn, back);
         }
-        Op::Movzx
-        | Op::Movsx
-        | Op::Add
-        | Op::Or
-        | Op::Adc
-        | Op::Sbb
-        | Op::And
-        | Op::Sub
-        | Op::Xor
-        | Op::Cmp
-        | Op::Test
-        | Op::Inc
-        | Op::Dec
-        | Op::Neg
-        | Op::Not
-        | Op::Shl
-        | Op::Shr
-        | Op::Sar
-        | Op::Setcc(_) => {
-            return end_data(regs, flags, lin, ports, insn, back);
+        Op::Add | Op::Or | Op::Adc | Op::Sbb | Op::And | Op::Sub | Op::Xor => {
+            return end_data_kind::<Sums, L, P>(regs, flags, &mut code.lin, ports, insn, back);
         }
-        Op::Jmp | Op::Jcc(_) | Op::Call | Op::Ret | Op::Loop | Op::Push => {
-            return end_flow(regs, flags, lin, ports, insn, back);
+        Op::Cmp | Op::Test => return end_data_kind::<Comparisons, L, P>(regs, flags, &mut code.lin, ports, insn, back),
+        Op::Inc | Op::Dec | Op::Neg | Op::Not => {
+            return end_data_kind::<Changes, L, P>(regs, flags, &mut code.lin, ports, insn, back);
         }
-        Op::Pop => {
-            if runs_flow(insn) {
-                return end_flow(regs, flags, lin, ports, insn, back);
-            }
+        Op::Shl | Op::Shr | Op::Sar => return end_data_kind::<Shifts, L, P>(regs, flags, &mut code.lin, ports, insn, back),
+        Op::Setcc(_) => return end_data_kind::<exec_data::Conditions, L, P>(regs, flags, &mut code.lin, ports, insn, back),
+        Op::Movzx | Op::Movsx => return end_data(regs, flags, &mut code.lin, ports, insn, back),
+        Op::Jmp => return end_flow_kind::<Jumps, L, P>(regs, flags, &mut code.lin, ports, insn, back),
+        Op::Jcc(_) => return end_flow_kind::<exec_flow::Conditions, L, P>(regs, flags, &mut code.lin, ports, insn, back),
+        Op::Call => return end_flow_kind::<Calls, L, P>(regs, flags, &mut code.lin, ports, insn, back),
+        Op::Ret => return end_flow_kind::<Returns, L, P>(regs, flags, &mut code.lin, ports, insn, back),
+        Op::Loop | Op::Push => return end_flow(regs, flags, &mut code.lin, ports, insn, back),
+        Op::Pop => if runs_flow(insn) {
+            return end_flow(regs, flags, &mut code.lin, ports, insn, back);
         }
         Op::Movs | Op::Cmps | Op::Stos | Op::Lods | Op::Scas => {
-            return end_string(regs, flags, lin, ports, insn, back);
+            return end_string(regs, flags, &mut code.lin, ports, insn, back);
         }
         _ => {}
     }
-    end_any(regs, flags, lin, ports, insn, back)
+    end_any(regs, flags, code, ports, insn, back)
 }

@@ -1,5 +1,5 @@
 -- The table of shapes names the rows.
-use Rattle.std.proofs.Common.{◌≡◌, ℕ, zero, suc, ◌+◌, ◌*◌, ◌<◌, ◌==◌, ◌&&◌, Bool, true, false, List, [], ◌∷◌, get_or, refl, sym, ap, subst, ◌∙◌, arith, length}
+use Rattle.std.proofs.Common.{◌≡◌, ℕ, zero, suc, ◌+◌, ◌*◌, ◌<◌, ◌==◌, ◌&&◌, Bool, true, false, if◌then◌else◌, List, [], ◌∷◌, get_or, refl, sym, ap, subst, ◌∙◌, arith, length}
 use Rattle.std.proofs.lemmas.Bool.Decides.{nat_tests}
 use Rattle.mdl_insn.specs.declared.mnemonics.Op.{Op}
 use Rattle.mdl_insn.specs.declared.rows.Width.{Width}
@@ -17,7 +17,7 @@ use Rattle.mdl_insn.proofs.Tables.{at-one, at-two, at-member}
 use Rattle.insn_decode.specs.declared.shapes.Shape.{Shape}
 use Rattle.insn_decode.specs.declared.shapes.Shape.TheVariants as shape
 use Rattle.insn_decode.specs.declared.shapes.TheConstants.{ONE_BYTE, TWO_BYTES, GROUPS}
-use Rattle.insn_decode.specs.Shapes.{shape_row, width_number, kind_number, form_number, is_like, is_odd, shape_fits_row, shape_fits}
+use Rattle.insn_decode.specs.Shapes.{shape_row, width_number, kind_number, form_number, is_like, is_row, is_row_like, other_fits, shape_fits, fits_at, lead_fits}
 
 -- ---- a number tells the part
 
@@ -125,44 +125,49 @@ like r q op e =
     ∙ ap (λ (v : Form). made q.op q.width q.kind q.a v r.c) second
     ∙ ap (λ (v : Form). made q.op q.width q.kind q.a q.b v) third
 
-row_named : (r : Row) (s : Shape) → is_odd s ≡ false → shape_fits_row r s ≡ true → r ≡ shape_row s r.op
-row_named r shape.EbGb odd e = like r (shape_row shape.EbGb r.op) refl e
-row_named r shape.EvGv odd e = like r (shape_row shape.EvGv r.op) refl e
-row_named r shape.GbEb odd e = like r (shape_row shape.GbEb r.op) refl e
-row_named r shape.GvEv odd e = like r (shape_row shape.GvEv r.op) refl e
-row_named r shape.AlIb odd e = like r (shape_row shape.AlIb r.op) refl e
-row_named r shape.AxIv odd e = like r (shape_row shape.AxIv r.op) refl e
-row_named r shape.RbIb odd e = like r (shape_row shape.RbIb r.op) refl e
-row_named r shape.RvIv odd e = like r (shape_row shape.RvIv r.op) refl e
-row_named r shape.Rv odd e = like r (shape_row shape.Rv r.op) refl e
-row_named r shape.Jb odd e = like r (shape_row shape.Jb r.op) refl e
-row_named r shape.Jv odd e = like r (shape_row shape.Jv r.op) refl e
-row_named r shape.Bare odd e = like r (shape_row shape.Bare r.op) refl e
-row_named r shape.BareByte odd e = like r (shape_row shape.BareByte r.op) refl e
-row_named r shape.GvEb odd e = like r (shape_row shape.GvEb r.op) refl e
-row_named r shape.GvEw odd e = like r (shape_row shape.GvEw r.op) refl e
-row_named r shape.GvM odd e = like r (shape_row shape.GvM r.op) refl e
-row_named r shape.Eb odd e = like r (shape_row shape.Eb r.op) refl e
-row_named r shape.Ev odd e = like r (shape_row shape.Ev r.op) refl e
-row_named r shape.EbIb odd e = like r (shape_row shape.EbIb r.op) refl e
-row_named r shape.EvIb odd e = like r (shape_row shape.EvIb r.op) refl e
-row_named r shape.EvIs odd e = like r (shape_row shape.EvIs r.op) refl e
-row_named r shape.EvIv odd e = like r (shape_row shape.EvIv r.op) refl e
-row_named r shape.EbOnce odd e = like r (shape_row shape.EbOnce r.op) refl e
-row_named r shape.EvOnce odd e = like r (shape_row shape.EvOnce r.op) refl e
-row_named r shape.EbCl odd e = like r (shape_row shape.EbCl r.op) refl e
-row_named r shape.EvCl odd e = like r (shape_row shape.EvCl r.op) refl e
-row_named r shape.AxOv odd e = like r (shape_row shape.AxOv r.op) refl e
-row_named r shape.OvAx odd e = like r (shape_row shape.OvAx r.op) refl e
-row_named r shape.AlOb odd e = like r (shape_row shape.AlOb r.op) refl e
-row_named r shape.ObAl odd e = like r (shape_row shape.ObAl r.op) refl e
-row_named r shape.IsNo odd e = like r (shape_row shape.IsNo r.op) refl e
-row_named r shape.IvNo odd e = like r (shape_row shape.IvNo r.op) refl e
-row_named r shape.Odd odd e = absurd cc
+row_op : (s : Shape) (op : Op) → (shape_row s op).op ≡ op
+row_op shape.Odd op = refl
+row_op shape.Prefix op = refl
+row_op shape.TwoBytes op = refl
+row_op shape.Group op = refl
+row_op shape.EbGb op = refl
+row_op shape.EvGv op = refl
+row_op shape.GbEb op = refl
+row_op shape.GvEv op = refl
+row_op shape.AlIb op = refl
+row_op shape.AxIv op = refl
+row_op shape.RbIb op = refl
+row_op shape.RvIv op = refl
+row_op shape.Rv op = refl
+row_op shape.Jb op = refl
+row_op shape.Jv op = refl
+row_op shape.Bare op = refl
+row_op shape.BareByte op = refl
+row_op shape.GvEb op = refl
+row_op shape.GvEw op = refl
+row_op shape.GvM op = refl
+row_op shape.Eb op = refl
+row_op shape.Ev op = refl
+row_op shape.EbIb op = refl
+row_op shape.EvIb op = refl
+row_op shape.EvIs op = refl
+row_op shape.EvIv op = refl
+row_op shape.EbOnce op = refl
+row_op shape.EvOnce op = refl
+row_op shape.EbCl op = refl
+row_op shape.EvCl op = refl
+row_op shape.AxOv op = refl
+row_op shape.OvAx op = refl
+row_op shape.AlOb op = refl
+row_op shape.ObAl op = refl
+row_op shape.IsNo op = refl
+row_op shape.IvNo op = refl
 
--- a row of a shape that is not odd is the one that the shape names
-pub named : (f : Entry) (s : Shape) (r : Row) → f ≡ One r → is_odd s ≡ false → shape_fits f s ≡ true → f ≡ One (shape_row s r.op)
-named f s r is odd e = is ∙ ap One (row_named r s odd (subst (λ (g : Entry). shape_fits g s ≡ true) is e))
+-- a row of a shape is the one that the shape names
+pub named : (f : Entry) (s : Shape) (r : Row) → f ≡ One r → is_row s ≡ true → shape_fits f s ≡ true → f ≡ One (shape_row s r.op)
+named f s r is row e =
+    let fits : is_row_like f s ≡ true = subst (λ (v : Bool). (if v then is_row_like f s else other_fits f s) ≡ true) row e in
+    is ∙ ap One (like r (shape_row s r.op) (sym (row_op s r.op)) (subst (λ (g : Entry). is_row_like g s ≡ true) is fits))
 
 -- ---- the tables
 
@@ -177,6 +182,20 @@ fit_at (f ∷ fs) [] i d z h k e = absurd (omega (arith, k))
 fit_at (f ∷ fs) (s ∷ ss) zero d z h k e = left_of (shape_fits f s) (all_fit fs ss) e
 fit_at (f ∷ fs) (s ∷ ss) (suc i) d z h k e = fit_at fs ss i d z (omega (arith, h)) (omega (arith, k)) (right_of (shape_fits f s) (all_fit fs ss) e)
 
+-- from a first byte on
+abbrev leads_fit : ℕ → List Entry → List Shape → Bool
+leads_fit b [] ss = true
+leads_fit b (f ∷ fs) [] = true
+leads_fit b (f ∷ fs) (s ∷ ss) = fits_at b f s && leads_fit (suc b) fs ss
+
+lead_at : (b n : ℕ) (fs : List Entry) (ss : List Shape) (i : ℕ) (d : Entry) (z : Shape) → n ≡ b + i → i < length fs → i < length ss → leads_fit b fs ss ≡ true → fits_at n (get_or fs i d) (get_or ss i z) ≡ true
+lead_at b n [] ss i d z at h k e = absurd (omega (arith, h))
+lead_at b n (f ∷ fs) [] i d z at h k e = absurd (omega (arith, k))
+lead_at b n (f ∷ fs) (s ∷ ss) zero d z at h k e =
+    let same : b ≡ n = omega (arith, at) in
+    subst (λ (m : ℕ). fits_at m f s ≡ true) same (left_of (fits_at b f s) (leads_fit (suc b) fs ss) e)
+lead_at b n (f ∷ fs) (s ∷ ss) (suc i) d z at h k e = lead_at (suc b) n fs ss i d z (omega (arith, at)) (omega (arith, h)) (omega (arith, k)) (right_of (fits_at b f s) (leads_fit (suc b) fs ss) e)
+
 default_any : (fs : List Entry) (i : ℕ) (d : Entry) → i < length fs → get_or fs i d ≡ get_or fs i (get_or fs i d)
 default_any [] i d h = absurd (omega (arith, h))
 default_any (f ∷ fs) zero d h = refl
@@ -187,10 +206,10 @@ default_any (f ∷ fs) (suc i) d h = within fs i d (get_or fs i d) (omega (arith
     within (f ∷ fs) zero d z h = refl
     within (f ∷ fs) (suc i) d z h = within fs i d z (omega (arith, h))
 
-pub one_fits : (b : ℕ) (s : Shape) → b < 256 → s ≡ get_or ONE_BYTE b s → shape_fits (one_entry b) s ≡ true
+pub one_fits : (b : ℕ) (s : Shape) → b < 256 → s ≡ get_or ONE_BYTE b s → lead_fits b s ≡ true
 one_fits b s lt e =
-    subst (λ (f : Entry). shape_fits f s ≡ true) (at-one b (get_or rows.ONE_BYTE b Undefined) lt (default_any rows.ONE_BYTE b Undefined lt))
-    (subst (λ (z : Shape). shape_fits (get_or rows.ONE_BYTE b Undefined) z ≡ true) (sym e) (fit_at rows.ONE_BYTE ONE_BYTE b Undefined s lt lt refl))
+    subst (λ (f : Entry). fits_at b f s ≡ true) (at-one b (get_or rows.ONE_BYTE b Undefined) lt (default_any rows.ONE_BYTE b Undefined lt))
+    (subst (λ (z : Shape). fits_at b (get_or rows.ONE_BYTE b Undefined) z ≡ true) (sym e) (lead_at 0 b rows.ONE_BYTE ONE_BYTE b Undefined s (omega arith) lt lt refl))
 
 pub two_fits : (b : ℕ) (s : Shape) → b < 256 → s ≡ get_or TWO_BYTES b s → shape_fits (two_entry b) s ≡ true
 two_fits b s lt e =

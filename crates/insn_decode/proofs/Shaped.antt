@@ -1,5 +1,5 @@
 -- What is told by shape is what the rows tell.
-use Rattle.std.proofs.Common.{◌≡◌, ◌≢◌, ℕ, ◌<◌, ◌≤◌, Bool, true, false, not, ◌&&◌, ◌||◌, [], Result, Ok, refl, sym, subst}
+use Rattle.std.proofs.Common.{◌≡◌, ◌≢◌, ℕ, ◌<◌, ◌≤◌, Bool, true, false, not, ◌&&◌, ◌||◌, if◌then◌else◌, [], Result, Ok, refl, sym, ap, subst, ◌∙◌}
 use Rattle.std.specs.Prelude.{Some, IsTrue}
 use Rattle.std.specs.Bool.{OnTrue}
 use Rattle.mdl_state.specs.declared.Fault.{Fault}
@@ -7,7 +7,7 @@ use Rattle.mdl_insn.specs.declared.instruction.Insn.{Insn}
 use Rattle.mdl_insn.specs.declared.rows.Setting.{Setting}
 use Rattle.mdl_insn.specs.declared.rows.Row.{Row}
 use Rattle.mdl_insn.specs.declared.rows.Entry.{Entry}
-use Rattle.mdl_insn.specs.declared.rows.Entry.TheVariants.{One, Group}
+use Rattle.mdl_insn.specs.declared.rows.Entry.TheVariants.{Undefined, One, Group}
 use Rattle.mdl_insn.specs.Rows.{one_entry, two_entry, member_entry}
 use Rattle.mdl_insn.specs.Tree.{byte_tree}
 use Rattle.mdl_insn.specs.Addresses.{has_modrm, reg_of}
@@ -17,7 +17,8 @@ use Rattle.mdl_insn.specs.RowTree.{chosen_of, behind_tree, row_tree}
 use Rattle.insn_decode.specs.declared.shapes.Shape.{Shape}
 use Rattle.insn_decode.specs.Decoded.{Takes}
 use Rattle.insn_decode.specs.Reading.{Runs, found_tree, prefix_step}
-use Rattle.insn_decode.specs.Shapes.{is_odd, shape_row, shape_fits}
+use Rattle.insn_decode.specs.Shapes.{is_row, is_group, is_row_like, other_fits, first_fits, lead_fits, shape_row, shape_fits}
+use Rattle.insn_decode.specs.declared.shapes.Shape.TheVariants as shape
 use Rattle.insn_decode.proofs.Named.{named}
 use Rattle.insn_decode.proofs.Picking.{bare, one, member, found_allowed}
 use Rattle.insn_decode.proofs.Placing.{row_one, row_two}
@@ -40,24 +41,39 @@ pub told_bare : {S : Type 0} (gives : S → Result ℕ Fault → S → Type 0) (
 told_bare gives s r b n st i m e true lock has a q = found_allowed gives s (One r) r b n st 0 n st (Ok i) m e (free s.lock (lockable r) lock) (bare gives r n st has) (freely s r 0 lock a) q
 told_bare gives s r b n st i m e false lock has a q = tt
 
-pub not_odd : (v : Bool) → OnTrue v (false ≡ false)
-not_odd true = refl
-not_odd false = tt
+pub is_one : (v : Bool) → OnTrue v (true ≡ true)
+is_one true = refl
+is_one false = tt
+
+row_like : (f : Entry) (sh : Shape) → is_row sh ≡ true → shape_fits f sh ≡ true → is_row_like f sh ≡ true
+row_like f sh row fits = subst (λ (v : Bool). (if v then is_row_like f sh else other_fits f sh) ≡ true) row fits
 
 -- a row of a shape is that of the entry
-pub entered_one : {S : Type 0} (gives : S → Result ℕ Fault → S → Type 0) (s : Setting) (f : Entry) (sh : Shape) (r : Row) (b n : ℕ) (st : S) (i : Insn) (m : ℕ) (e : S) (v : Bool) → f ≡ One r → shape_fits f sh ≡ true → OnTrue v (is_odd sh ≡ false) → OnTrue v (Runs gives (found_tree s (One (shape_row sh r.op)) b) n st (Ok i) m e) → OnTrue v (Runs gives (found_tree s f b) n st (Ok i) m e)
-entered_one gives s f sh r b n st i m e true is fits odd q = subst (λ (g : Entry). Runs gives (found_tree s g b) n st (Ok i) m e) (sym (named f sh r is odd fits)) q
-entered_one gives s f sh r b n st i m e false is fits odd q = tt
+pub entered_row : {S : Type 0} (gives : S → Result ℕ Fault → S → Type 0) (s : Setting) (f : Entry) (sh : Shape) (r : Row) (b n : ℕ) (st : S) (i : Insn) (m : ℕ) (e : S) (v : Bool) → f ≡ One r → is_row sh ≡ true → shape_fits f sh ≡ true → OnTrue v (Runs gives (found_tree s (One (shape_row sh r.op)) b) n st (Ok i) m e) → OnTrue v (Runs gives (found_tree s f b) n st (Ok i) m e)
+entered_row gives s f sh r b n st i m e v is row fits q = subst (λ (g : Entry). OnTrue v (Runs gives (found_tree s g b) n st (Ok i) m e)) (sym (named f sh r is row fits)) q
 
-pub entered_group : {S : Type 0} (gives : S → Result ℕ Fault → S → Type 0) (s : Setting) (f : Entry) (g b n : ℕ) (st : S) (i : Insn) (m : ℕ) (e : S) (v : Bool) → f ≡ Group g → OnTrue v (Runs gives (found_tree s (Group g) b) n st (Ok i) m e) → OnTrue v (Runs gives (found_tree s f b) n st (Ok i) m e)
-entered_group gives s f g b n st i m e v is q = subst (λ (h : Entry). OnTrue v (Runs gives (found_tree s h b) n st (Ok i) m e)) (sym is) q
+-- an entry of which a shape is a row is one
+pub no_row_undefined : (f : Entry) (sh : Shape) → f ≡ Undefined → is_row sh ≡ true → shape_fits f sh ≡ true → ⊥
+no_row_undefined f sh is row fits = let no : false ≡ true = subst (λ (g : Entry). is_row_like g sh ≡ true) is (row_like f sh row fits) in cc
+
+pub no_row_group : (f : Entry) (sh : Shape) (g : ℕ) → f ≡ Group g → is_row sh ≡ true → shape_fits f sh ≡ true → ⊥
+no_row_group f sh g is row fits = let no : false ≡ true = subst (λ (h : Entry). is_row_like h sh ≡ true) is (row_like f sh row fits) in cc
 
 -- a member of a group
-pub grouped_member : {S : Type 0} (gives : S → Result ℕ Fault → S → Type 0) (s : Setting) (g b n : ℕ) (st : S) (k l : ℕ) (mid : S) (r : Row) (sh : Shape) (i : Insn) (m : ℕ) (e : S) (v : Bool) → s.lock ≡ false → Runs gives byte_tree n st (Ok k) l mid → member_entry g (reg_of k) ≡ One r → shape_fits (member_entry g (reg_of k)) sh ≡ true → OnTrue v (is_odd sh ≡ false) → OnTrue v (allows s (shape_row sh r.op) k ≡ true) → OnTrue v (Runs gives (behind_tree s (chosen_of (shape_row sh r.op) b k)) l mid (Ok i) m e) → OnTrue v (Runs gives (found_tree s (Group g) b) n st (Ok i) m e)
-grouped_member gives s g b n st k l mid r sh i m e true lock p is fits odd a q =
-    found_allowed gives s (Group g) (shape_row sh r.op) b n st k l mid (Ok i) m e (free s.lock (group_locks g) lock)
-    (member gives g (shape_row sh r.op) n st k l mid (named (member_entry g (reg_of k)) sh r is odd fits) p) a q
-grouped_member gives s g b n st k l mid r sh i m e false lock p is fits odd a q = tt
+pub grouped_member : {S : Type 0} (gives : S → Result ℕ Fault → S → Type 0) (s : Setting) (f : Entry) (g b n : ℕ) (st : S) (k l : ℕ) (mid : S) (r : Row) (sh : Shape) (i : Insn) (m : ℕ) (e : S) (v : Bool) → f ≡ Group g → s.lock ≡ false → Runs gives byte_tree n st (Ok k) l mid → member_entry g (reg_of k) ≡ One r → shape_fits (member_entry g (reg_of k)) sh ≡ true → OnTrue v (is_row sh ≡ true) → OnTrue v (allows s (shape_row sh r.op) k ≡ true) → OnTrue v (Runs gives (behind_tree s (chosen_of (shape_row sh r.op) b k)) l mid (Ok i) m e) → OnTrue v (Runs gives (found_tree s f b) n st (Ok i) m e)
+grouped_member gives s f g b n st k l mid r sh i m e true at lock p is fits row a q =
+    subst (λ (h : Entry). Runs gives (found_tree s h b) n st (Ok i) m e) (sym at)
+    (found_allowed gives s (Group g) (shape_row sh r.op) b n st k l mid (Ok i) m e (free s.lock (group_locks g) lock)
+    (member gives g (shape_row sh r.op) n st k l mid (named (member_entry g (reg_of k)) sh r is row fits) p) a q)
+grouped_member gives s f g b n st k l mid r sh i m e false at lock p is fits row a q = tt
+
+-- no entry stands at 0F
+two_undefined : (b : ℕ) → b ≡ 0x0F → one_entry b ≡ Undefined
+unfolding one_entry
+two_undefined b is = ap one_entry is ∙ refl
+
+not_two : (b : ℕ) (sh : Shape) → is_row sh ≡ true → is_row_like (one_entry b) sh ≡ true → b ≢ 0x0F
+not_two b sh row like is = let no : false ≡ true = subst (λ (g : Entry). is_row_like g sh ≡ true) (two_undefined b is) like in cc
 
 -- the entry of a first byte
 pub opened_one : {S : Type 0} (gives : S → Result ℕ Fault → S → Type 0) (s : Setting) (f : Entry) (b n : ℕ) (st : S) (i : Insn) (m : ℕ) (e : S) (v : Bool) → b ≢ 0x0F → f ≡ one_entry b → OnTrue v (Runs gives (found_tree s f b) n st (Ok i) m e) → OnTrue v (Runs gives (row_tree s b) n st (Ok i) m e)
@@ -65,12 +81,22 @@ opened_one gives s f b n st i m e true ne is q = row_one gives s b n st (Ok i) m
 opened_one gives s f b n st i m e false ne is q = tt
 
 -- and that of the second behind 0F
-pub opened_two : {S : Type 0} (gives : S → Result ℕ Fault → S → Type 0) (s : Setting) (f : Entry) (b n : ℕ) (st : S) (k l : ℕ) (mid : S) (i : Insn) (m : ℕ) (e : S) (v : Bool) → b ≡ 0x0F → Runs gives byte_tree n st (Ok k) l mid → f ≡ two_entry k → OnTrue v (Runs gives (found_tree s f k) l mid (Ok i) m e) → OnTrue v (Runs gives (row_tree s b) n st (Ok i) m e)
-opened_two gives s f b n st k l mid i m e true is p at q = row_two gives s b n st k l mid (Ok i) m e is p (subst (λ (g : Entry). Runs gives (found_tree s g k) l mid (Ok i) m e) at q)
-opened_two gives s f b n st k l mid i m e false is p at q = tt
+pub opened_two : {S : Type 0} (gives : S → Result ℕ Fault → S → Type 0) (s : Setting) (b n : ℕ) (st : S) (k l : ℕ) (mid : S) (i : Insn) (m : ℕ) (e : S) (v : Bool) → b ≡ 0x0F → Runs gives byte_tree n st (Ok k) l mid → OnTrue v (Runs gives (found_tree s (two_entry k) k) l mid (Ok i) m e) → OnTrue v (Runs gives (row_tree s b) n st (Ok i) m e)
+opened_two gives s b n st k l mid i m e true is p q = row_two gives s b n st k l mid (Ok i) m e is p q
+opened_two gives s b n st k l mid i m e false is p q = tt
 
-pub fits_there : (f g : Entry) (s : Shape) → f ≡ g → shape_fits g s ≡ true → shape_fits f s ≡ true
-fits_there f g s is e = subst (λ (h : Entry). shape_fits h s ≡ true) (sym is) e
+-- what the shape of a first byte says
+lead_row : (b : ℕ) (sh : Shape) → is_row sh ≡ true → lead_fits b sh ≡ true → is_row_like (one_entry b) sh ≡ true
+lead_row b sh row fits = subst (λ (v : Bool). (if v then is_row_like (one_entry b) sh else first_fits b (one_entry b) sh) ≡ true) row fits
+
+pub row_there : (f : Entry) (b : ℕ) (sh : Shape) → f ≡ one_entry b → is_row sh ≡ true → lead_fits b sh ≡ true → shape_fits f sh ≡ true
+row_there f b sh is row fits = subst (λ (v : Bool). (if v then is_row_like f sh else other_fits f sh) ≡ true) (sym row) (subst (λ (h : Entry). is_row_like h sh ≡ true) (sym is) (lead_row b sh row fits))
+
+pub row_lead : (b : ℕ) (sh : Shape) → is_row sh ≡ true → lead_fits b sh ≡ true → b ≢ 0x0F
+row_lead b sh row fits = not_two b sh row (lead_row b sh row fits)
+
+pub group_lead : (b : ℕ) (sh : Shape) → sh ≡ shape.Group → lead_fits b sh ≡ true → b ≢ 0x0F
+group_lead b sh at fits is = let no : false ≡ true = subst (λ (g : Entry). is_group g ≡ true) (two_undefined b is) (subst (λ (s : Shape). lead_fits b s ≡ true) at fits) in cc
 
 -- no prefix
 pub first_takes : {S : Type 0} (gives : S → Result ℕ Fault → S → Type 0) (big : Bool) (s mid : S) (b : ℕ) (i : Insn) (m : ℕ) (e : S) (v : Bool) → v ≡ true → gives s (Ok b) mid → b < 256 → m ≤ 15 → OnTrue v (Runs gives (row_tree (setting big []) b) 1 mid (Ok i) m e) → Takes gives big s i m e

@@ -1,5 +1,5 @@
 -- The operands that rows have together, and the row that a shape and a mnemonic name.
-use Rattle.std.specs.Prelude.{ℕ, ◌==◌, ◌&&◌, Bool, true, false}
+use Rattle.std.specs.Prelude.{ℕ, ◌==◌, ◌&&◌, Bool, true, false, if◌then◌else◌}
 use Rattle.mdl_insn.specs.declared.mnemonics.Op.{Op}
 use Rattle.mdl_insn.specs.declared.rows.Width.{Width}
 use Rattle.mdl_insn.specs.declared.rows.Width.TheVariants as width
@@ -9,14 +9,16 @@ use Rattle.mdl_insn.specs.declared.rows.Form.{Form}
 use Rattle.mdl_insn.specs.declared.rows.Form.TheVariants as form
 use Rattle.mdl_insn.specs.declared.rows.Row.{Row}
 use Rattle.mdl_insn.specs.declared.rows.Entry.{Entry}
-use Rattle.mdl_insn.specs.declared.rows.Entry.TheVariants.{One}
+use Rattle.mdl_insn.specs.declared.rows.Entry.TheVariants.{One, Group}
+use Rattle.mdl_insn.specs.Rows.{one_entry}
+use Rattle.mdl_insn.specs.Prefixes.{is_prefix}
 use Rattle.insn_decode.specs.declared.shapes.Shape.{Shape}
 use Rattle.insn_decode.specs.declared.shapes.Shape.TheVariants as shape
 
 abbrev pub row_with : Op → Width → Kind → Form → Form → Row
 row_with op w k a b = record { op = op; width = w; kind = k; a = a; b = b; c = form.No }
 
--- the row of a mnemonic with these operands
+-- the row of a mnemonic with these operands, where the shape is of one
 abbrev pub shape_row : Shape → Op → Row
 shape_row shape.EbGb op = row_with op width.Byte kind.First form.Eb form.Gb
 shape_row shape.EvGv op = row_with op width.Full kind.First form.Ev form.Gv
@@ -50,7 +52,7 @@ shape_row shape.AlOb op = row_with op width.Byte kind.Bare form.Al form.Ob
 shape_row shape.ObAl op = row_with op width.Byte kind.Bare form.Ob form.Al
 shape_row shape.IsNo op = row_with op width.Full kind.Bare form.Is form.No
 shape_row shape.IvNo op = row_with op width.Full kind.Bare form.Iv form.No
-shape_row shape.Odd op = row_with op width.Byte kind.Bare form.No form.No
+shape_row _ op = row_with op width.Byte kind.Bare form.No form.No
 
 -- the parts of a row by number
 abbrev pub width_number : Width → ℕ
@@ -142,15 +144,41 @@ abbrev pub is_like : Row → Row → Bool
 is_like r q = (width_number r.width == width_number q.width) && ((kind_number r.kind == kind_number q.kind)
     && ((form_number r.a == form_number q.a) && ((form_number r.b == form_number q.b) && (form_number r.c == form_number q.c))))
 
-abbrev pub is_odd : Shape → Bool
-is_odd shape.Odd = true
-is_odd _ = false
+-- a row of these operands
+abbrev pub is_row : Shape → Bool
+is_row shape.Odd = false
+is_row shape.Prefix = false
+is_row shape.TwoBytes = false
+is_row shape.Group = false
+is_row _ = true
 
--- the entry is a row of this shape, if it has one
-abbrev pub shape_fits_row : Row → Shape → Bool
-shape_fits_row r shape.Odd = true
-shape_fits_row r s = is_like r (shape_row s r.op)
+abbrev pub is_group : Entry → Bool
+is_group (Group g) = true
+is_group _ = false
 
+abbrev pub is_row_like : Entry → Shape → Bool
+is_row_like (One r) s = is_like r (shape_row s r.op)
+is_row_like _ s = false
+
+-- what else stands at an entry
+abbrev pub other_fits : Entry → Shape → Bool
+other_fits f shape.Odd = true
+other_fits f shape.Group = is_group f
+other_fits f _ = false
+
+-- the entry is what the shape says
 abbrev pub shape_fits : Entry → Shape → Bool
-shape_fits (One r) s = shape_fits_row r s
-shape_fits _ s = is_odd s
+shape_fits f s = if is_row s then is_row_like f s else other_fits f s
+
+-- what else stands at a first byte
+abbrev pub first_fits : ℕ → Entry → Shape → Bool
+first_fits b f shape.Prefix = is_prefix b
+first_fits b f shape.TwoBytes = b == 0x0F
+first_fits b f s = other_fits f s
+
+-- a first byte is what the shape says
+abbrev pub fits_at : ℕ → Entry → Shape → Bool
+fits_at b f s = if is_row s then is_row_like f s else first_fits b f s
+
+abbrev pub lead_fits : ℕ → Shape → Bool
+lead_fits b s = fits_at b (one_entry b) s

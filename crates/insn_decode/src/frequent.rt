@@ -2,23 +2,25 @@
 //!
 //! The row stands in each arm as a constant.
 
-ghost use Rattle.std.specs.Prelude.{◌≡◌, ◌≤◌, ◌<◌, Ok, IfSome, true, false};
+ghost use Rattle.std.specs.Prelude.{◌≡◌, ◌≤◌, ◌<◌, Ok, IfSome, true, false, []};
 ghost use Rattle.std.specs.Bool.{OnTrue};
-ghost use Rattle.mdl_insn.specs.declared.rows.Entry.TheVariants.{One, Group};
+ghost use Rattle.mdl_insn.specs.declared.rows.Entry.TheVariants.{One};
 ghost use Rattle.mdl_insn.specs.Addresses.{has_modrm};
 ghost use Rattle.mdl_insn.specs.Fits.{IsEntry};
-ghost use Rattle.mdl_insn.specs.Prefixes.{is_prefix as is_prefix_of};
+ghost use Rattle.mdl_insn.specs.Rows.{two_entry};
+ghost use Rattle.mdl_insn.specs.Prefixes.{is_prefix as is_prefix_of, setting};
 ghost use Rattle.mdl_insn.specs.RowTree.{chosen_of, row_tree, behind_tree};
 ghost use Rattle.mdl_insn.specs.Operands as operand_spec;
 ghost use Rattle.insn_decode.specs.Decoded.{Takes};
 ghost use Rattle.insn_decode.specs.Reading.{Runs, found_tree};
-ghost use Rattle.insn_decode.specs.Shapes.{is_odd, shape_row, shape_fits};
+ghost use Rattle.insn_decode.specs.Shapes.{is_row, is_group, lead_fits, shape_row, shape_fits};
 
 use crate::addresses::{mod_of, reg_of};
 use crate::bytes::byte;
-use crate::prefixes::{first_prefix, is_prefix, start};
+use crate::given::Prefixes;
+use crate::prefixes::first_prefix;
 use crate::readers::{Addressed, Count, Distance, Named, Number, Other, Register};
-use crate::shapes::{Shape, member_shape, one_shape, two_shape};
+use crate::shapes::{Shape, is_row, member_shape, one_shape, two_shape};
 use crate::told::{Front, told};
 use mdl_insn::lookups::{member_entry, one_entry, two_entry};
 use mdl_insn::rows::{Entry, Form, Kind, Row, Setting, Width};
@@ -39,13 +41,13 @@ macro_rules! row {
 
 /// What follows the ModRM byte of a row that is alone at its opcode, by its shape. Answers whether that is an
 /// instruction of one.
-#[tactic(auto, using(crate::proofs::Shaped::not_odd, crate::proofs::Shaped::freely))]
+#[tactic(auto, using(crate::proofs::Shaped::is_one, crate::proofs::Shaped::freely))]
 #[rattlefmt::skip]
 #[inline(always)]
 fn behind_modrm<F: Fetch>(fetch: &mut F, count: &mut u8, front: &Front, op: Op, shape: Shape, insn: &mut Insn) -> bool
     requires room { count.old ≤ 15 }
     requires lock { front.now.setting.now.lock ≡ false }
-    ensures shape { OnTrue result (is_odd shape ≡ false) }
+    ensures shape { OnTrue result (is_row shape ≡ true) }
     ensures modrm { OnTrue result (has_modrm (shape_row shape op) ≡ true) }
     ensures allowed { OnTrue result (operand_spec.allows front.now.setting.now (shape_row shape op) front.now.modrm ≡ true) }
     ensures runs { OnTrue result (Runs F.gives (behind_tree front.now.setting.now (chosen_of (shape_row shape op) front.now.opcode front.now.modrm)) count.old fetch.old (Ok insn.new) count.new fetch.new) }
@@ -65,19 +67,19 @@ fn behind_modrm<F: Fetch>(fetch: &mut F, count: &mut u8, front: &Front, op: Op, 
 }
 
 /// What follows the opcode of a mnemonic, by its shape. Answers whether that is an instruction of one.
-#[tactic(auto, using(crate::proofs::Shaped::not_odd, crate::proofs::Shaped::freely, crate::proofs::Shaped::told_bare, crate::proofs::Shaped::told_modrm))]
+#[tactic(auto, using(crate::proofs::Shaped::is_one, crate::proofs::Shaped::freely, crate::proofs::Shaped::told_bare, crate::proofs::Shaped::told_modrm))]
 #[rattlefmt::skip]
 #[inline(always)]
-fn shaped<F: Fetch>(fetch: &mut F, count: &mut u8, setting: &Setting, op: Op, shape: Shape, opcode: u8, insn: &mut Insn) -> bool
+fn shaped<F: Fetch, G: Prefixes>(fetch: &mut F, count: &mut u8, given: &G, op: Op, shape: Shape, opcode: u8, insn: &mut Insn) -> bool
     requires room { count.old ≤ 15 }
-    requires lock { setting.now.lock ≡ false }
-    ensures shape { OnTrue result (is_odd shape ≡ false) }
-    ensures runs { OnTrue result (Runs F.gives (found_tree setting.now (One (shape_row shape op)) opcode) count.old fetch.old (Ok insn.new) count.new fetch.new) }
+    requires row { is_row shape ≡ true }
+    requires lock { (G.gives given.now).lock ≡ false }
+    ensures runs { OnTrue result (Runs F.gives (found_tree (G.gives given.now) (One (shape_row shape op)) opcode) count.old fetch.old (Ok insn.new) count.new fetch.new) }
     ensures count { count.new ≤ 15 }
 {
-    let front = Front { setting, opcode, modrm: 0 };
+    let setting = given.setting();
+    let front = Front { setting: &setting, opcode, modrm: 0 };
     match shape {
-        Shape::Odd => false,
         Shape::AlIb => told::<F, Named, Number>(fetch, count, &front, row!(op, Byte, Bare, Al, Ib), insn),
         Shape::AxIv => told::<F, Named, Number>(fetch, count, &front, row!(op, Full, Bare, Ax, Iv), insn),
         Shape::RbIb => told::<F, Named, Number>(fetch, count, &front, row!(op, Byte, Bare, Rb, Ib), insn),
@@ -94,7 +96,7 @@ fn shaped<F: Fetch>(fetch: &mut F, count: &mut u8, setting: &Setting, op: Op, sh
         Shape::IsNo => told::<F, Number, Count>(fetch, count, &front, row!(op, Full, Bare, Is, No), insn),
         Shape::IvNo => told::<F, Number, Count>(fetch, count, &front, row!(op, Full, Bare, Iv, No), insn),
         _ => match byte(fetch, count) {
-            Ok(modrm) => behind_modrm(fetch, count, &Front { setting, opcode, modrm }, op, shape, insn),
+            Ok(modrm) => behind_modrm(fetch, count, &Front { setting: &setting, opcode, modrm }, op, shape, insn),
             Err(_) => false,
         },
     }
@@ -102,13 +104,13 @@ fn shaped<F: Fetch>(fetch: &mut F, count: &mut u8, setting: &Setting, op: Op, sh
 
 /// What follows the ModRM byte of a member of a group, by its shape. Answers whether that is an
 /// instruction of one.
-#[tactic(auto, using(crate::proofs::Shaped::not_odd, crate::proofs::Shaped::freely))]
+#[tactic(auto, using(crate::proofs::Shaped::is_one, crate::proofs::Shaped::freely))]
 #[rattlefmt::skip]
 #[inline(never)]
 fn shaped_member<F: Fetch>(fetch: &mut F, count: &mut u8, front: &Front, op: Op, shape: Shape, insn: &mut Insn) -> bool
     requires room { count.old ≤ 15 }
     requires lock { front.now.setting.now.lock ≡ false }
-    ensures shape { OnTrue result (is_odd shape ≡ false) }
+    ensures shape { OnTrue result (is_row shape ≡ true) }
     ensures allowed { OnTrue result (operand_spec.allows front.now.setting.now (shape_row shape op) front.now.modrm ≡ true) }
     ensures runs { OnTrue result (Runs F.gives (behind_tree front.now.setting.now (chosen_of (shape_row shape op) front.now.opcode front.now.modrm)) count.old fetch.old (Ok insn.new) count.new fetch.new) }
     ensures count { count.new ≤ 15 }
@@ -135,16 +137,20 @@ fn grouped<F: Fetch>(
     fetch: &mut F,
     count: &mut u8,
     setting: &Setting,
-    group: u8,
+    entry: &Entry,
     opcode: u8,
     insn: &mut Insn,
 ) -> bool
     requires room { count.old ≤ 15 }
-    requires group { group < 19 }
+    requires entry { IsEntry entry.now }
+    requires group { is_group entry.now ≡ true }
     requires lock { setting.now.lock ≡ false }
-    ensures runs { OnTrue result (Runs F.gives (found_tree setting.now (Group group) opcode) count.old fetch.old (Ok insn.new) count.new fetch.new) }
+    ensures runs { OnTrue result (Runs F.gives (found_tree setting.now entry.now opcode) count.old fetch.old (Ok insn.new) count.new fetch.new) }
     ensures count { count.new ≤ 15 }
 {
+    let Entry::Group(group) = *entry else {
+        unreachable!();
+    };
     let modrm = match byte(fetch, count) {
         Ok(b) => b,
         Err(_) => return false,
@@ -163,82 +169,91 @@ fn grouped<F: Fetch>(
     }
 }
 
-/// What follows an opcode, of these entry and shape. Answers whether that is an instruction of a shape.
-#[tactic(auto, using(crate::proofs::Shaped::entered_one, crate::proofs::Shaped::entered_group))]
+/// What follows the opcode of a row, of these entry and shape. Answers whether that is an instruction of it.
+#[tactic(auto, using(crate::proofs::Shaped::entered_row, crate::proofs::Shaped::no_row_undefined, crate::proofs::Shaped::no_row_group))]
 #[inline(always)]
-fn entered<F: Fetch>(
+fn entered<F: Fetch, G: Prefixes>(
     fetch: &mut F,
     count: &mut u8,
-    setting: &Setting,
+    given: &G,
     entry: &Entry,
     shape: Shape,
     opcode: u8,
     insn: &mut Insn,
 ) -> bool
     requires room { count.old ≤ 15 }
-    requires entry { IsEntry entry.now }
+    requires row { is_row shape ≡ true }
     requires shape { shape_fits entry.now shape ≡ true }
-    requires lock { setting.now.lock ≡ false }
-    ensures runs { OnTrue result (Runs F.gives (found_tree setting.now entry.now opcode) count.old fetch.old (Ok insn.new) count.new fetch.new) }
+    requires lock { (G.gives given.now).lock ≡ false }
+    ensures runs { OnTrue result (Runs F.gives (found_tree (G.gives given.now) entry.now opcode) count.old fetch.old (Ok insn.new) count.new fetch.new) }
     ensures count { count.new ≤ 15 }
 {
     match entry {
-        Entry::One(row) => shaped(fetch, count, setting, row.op, shape, opcode, insn),
-        Entry::Group(group) => grouped(fetch, count, setting, *group, opcode, insn),
-        Entry::Undefined => false,
+        Entry::One(row) => shaped(fetch, count, given, row.op, shape, opcode, insn),
+        _ => unreachable!(),
     }
 }
 
-/// The same, out of line, for what is behind 0F.
+/// What follows the second byte behind 0F. Answers whether that is an instruction of a shape.
 #[inline(never)]
-fn entered_far<F: Fetch>(
+fn behind_two<F: Fetch>(
     fetch: &mut F,
     count: &mut u8,
     setting: &Setting,
-    entry: &Entry,
-    shape: Shape,
-    opcode: u8,
+    second: u8,
     insn: &mut Insn,
 ) -> bool
     requires room { count.old ≤ 15 }
-    requires entry { IsEntry entry.now }
-    requires shape { shape_fits entry.now shape ≡ true }
     requires lock { setting.now.lock ≡ false }
-    ensures runs { OnTrue result (Runs F.gives (found_tree setting.now entry.now opcode) count.old fetch.old (Ok insn.new) count.new fetch.new) }
+    ensures runs { OnTrue result (Runs F.gives (found_tree setting.now (two_entry second) second) count.old fetch.old (Ok insn.new) count.new fetch.new) }
     ensures count { count.new ≤ 15 }
 {
-    entered(fetch, count, setting, entry, shape, opcode, insn)
+    let entry = two_entry(second);
+    let shape = two_shape(second);
+    if is_row(shape) {
+        return entered(fetch, count, setting, entry, shape, second, insn);
+    }
+    match shape {
+        Shape::Group => grouped(fetch, count, setting, entry, second, insn),
+        _ => false,
+    }
 }
 
-/// What follows the prefixes. Answers whether that is an instruction of a shape.
-#[tactic(auto, using(crate::proofs::Shaped::opened_one, crate::proofs::Shaped::opened_two, crate::proofs::Shaped::fits_there))]
+/// What follows the prefixes: a first byte, and what stands there. Answers whether that is an instruction
+/// of a shape.
+#[tactic(auto, using(crate::proofs::Shaped::opened_one, crate::proofs::Shaped::opened_two, crate::proofs::Shaped::row_there, crate::proofs::Shaped::row_lead, crate::proofs::Shaped::group_lead))]
 #[inline(always)]
-fn opened<F: Fetch>(
+fn opened<F: Fetch, G: Prefixes>(
     fetch: &mut F,
     count: &mut u8,
-    setting: &Setting,
+    given: &G,
     first: u8,
+    shape: Shape,
     insn: &mut Insn,
 ) -> bool
     requires room { count.old ≤ 15 }
-    requires lock { setting.now.lock ≡ false }
-    ensures runs { OnTrue result (Runs F.gives (row_tree setting.now first) count.old fetch.old (Ok insn.new) count.new fetch.new) }
+    requires fits { lead_fits first shape ≡ true }
+    requires lock { (G.gives given.now).lock ≡ false }
+    ensures runs { OnTrue result (Runs F.gives (row_tree (G.gives given.now) first) count.old fetch.old (Ok insn.new) count.new fetch.new) }
     ensures count { count.new ≤ 15 }
 {
-    if first != 0x0f {
-        return entered(
+    if is_row(shape) {
+        return entered(fetch, count, given, one_entry(first), shape, first, insn);
+    }
+    match shape {
+        Shape::Group => grouped(
             fetch,
             count,
-            setting,
+            &given.setting(),
             one_entry(first),
-            one_shape(first),
             first,
             insn,
-        );
-    }
-    match byte(fetch, count) {
-        Ok(b) => entered_far(fetch, count, setting, two_entry(b), two_shape(b), b, insn),
-        Err(_) => false,
+        ),
+        Shape::TwoBytes => match byte(fetch, count) {
+            Ok(second) => behind_two(fetch, count, &given.setting(), second, insn),
+            Err(_) => false,
+        },
+        _ => false,
     }
 }
 
@@ -258,7 +273,7 @@ fn prefixed<F: Fetch>(fetch: &mut F, big: bool, prefix: u8, insn: &mut Insn) -> 
         Err(_) => return None,
     };
     let mut count = 2;
-    if opened(fetch, &mut count, &setting, first, insn) {
+    if opened(fetch, &mut count, &setting, first, one_shape(first), insn) {
         Some(count)
     } else {
         None
@@ -266,21 +281,29 @@ fn prefixed<F: Fetch>(fetch: &mut F, big: bool, prefix: u8, insn: &mut Insn) -> 
 }
 
 /// Puts the instruction at the front of what is fetched into `insn`, where it is one of the most frequent
-/// kinds. The answer is its length; nothing says what is left in place of another.
+/// kinds. `given` tells the size of code as `big` does. The answer is its length; nothing says what is
+/// left in place of another.
 #[tactic(auto, using(crate::proofs::Shaped::first_takes))]
 #[inline(always)]
-pub fn decode_frequent<F: Fetch>(fetch: &mut F, big: bool, insn: &mut Insn) -> Option<u8>
+pub fn decode_frequent<F: Fetch, G: Prefixes>(
+    fetch: &mut F,
+    big: bool,
+    given: &G,
+    insn: &mut Insn,
+) -> Option<u8>
+    requires { G.gives given.now ≡ setting big [] }
     ensures takes { IfSome result (λ n. Takes F.gives big fetch.old insn.new n fetch.new) }
 {
     let lead = match fetch.next() {
         Ok(b) => b,
         Err(_) => return None,
     };
-    if is_prefix(lead, one_entry(lead)) {
+    let shape = one_shape(lead);
+    if let Shape::Prefix = shape {
         return prefixed(fetch, big, lead, insn);
     }
     let mut count = 1;
-    if opened(fetch, &mut count, &start(big), lead, insn) {
+    if opened(fetch, &mut count, given, lead, shape, insn) {
         Some(count)
     } else {
         None

@@ -9,6 +9,7 @@ pub mod addresses;
 pub mod bytes;
 pub mod decoding;
 mod frequent;
+mod given;
 pub mod legality;
 pub mod operands;
 pub mod prefixes;
@@ -21,5 +22,6 @@ mod told;
 
 pub use decoding::{blank, decode, decode_into};
 pub use frequent::decode_frequent;
+pub use given::{Plain16, Plain32, Prefixes};
 pub use refusals::{SliceError, Undecoded};
 pub use slice::decode_slice;

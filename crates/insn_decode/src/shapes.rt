@@ -1,14 +1,19 @@
 //! The rows whose operands most instructions have, told by one byte each.
 
 ghost use Rattle.std.specs.Prelude.{◌≡◌, ◌<◌, ◌+◌, ◌*◌, true, slice_index_or};
-ghost use Rattle.mdl_insn.specs.Rows.{one_entry, two_entry, member_entry};
-ghost use Rattle.insn_decode.specs.Shapes.{shape_fits};
+ghost use Rattle.mdl_insn.specs.Rows.{two_entry, member_entry};
+ghost use Rattle.insn_decode.specs.Shapes.{is_row, lead_fits, shape_fits};
 
-/// The operands of a row together, in the letters of the manual's opcode map. `Once` is a count of 1.
+/// What stands at an opcode: a prefix, what leads to more opcodes, or a row, by its operands in the letters
+/// of the manual's opcode map. `Once` is a count of 1.
 #[derive(Clone, Copy)]
 pub(crate) enum Shape {
-    /// Any other operands, a group, or no row.
+    /// Any other row, or none.
     Odd,
+    Prefix,
+    /// 0F, the first of two.
+    TwoBytes,
+    Group,
     EbGb,
     EvGv,
     GbEb,
@@ -43,6 +48,17 @@ pub(crate) enum Shape {
     IvNo,
 }
 
+/// Whether a row of these operands stands there.
+#[inline(always)]
+pub(crate) fn is_row(shape: Shape) -> bool
+    ensures { result ≡ is_row shape }
+{
+    match shape {
+        Shape::Odd | Shape::Prefix | Shape::TwoBytes | Shape::Group => false,
+        _ => true,
+    }
+}
+
 macro_rules! shapes {
     ($($name:ident)*) => {
         [$(Shape::$name),*]
@@ -53,43 +69,43 @@ macro_rules! shapes {
 #[rattlefmt::skip]
 static ONE_BYTE: [Shape; 256] = shapes![
     EbGb EvGv GbEb GvEv AlIb AxIv Odd Odd
+    EbGb EvGv GbEb GvEv AlIb AxIv Odd TwoBytes
     EbGb EvGv GbEb GvEv AlIb AxIv Odd Odd
     EbGb EvGv GbEb GvEv AlIb AxIv Odd Odd
-    EbGb EvGv GbEb GvEv AlIb AxIv Odd Odd
-    EbGb EvGv GbEb GvEv AlIb AxIv Odd Bare
-    EbGb EvGv GbEb GvEv AlIb AxIv Odd Bare
-    EbGb EvGv GbEb GvEv AlIb AxIv Odd Bare
-    EbGb EvGv GbEb GvEv AlIb AxIv Odd Bare
+    EbGb EvGv GbEb GvEv AlIb AxIv Prefix Bare
+    EbGb EvGv GbEb GvEv AlIb AxIv Prefix Bare
+    EbGb EvGv GbEb GvEv AlIb AxIv Prefix Bare
+    EbGb EvGv GbEb GvEv AlIb AxIv Prefix Bare
     Rv Rv Rv Rv Rv Rv Rv Rv
     Rv Rv Rv Rv Rv Rv Rv Rv
     Rv Rv Rv Rv Rv Rv Rv Rv
     Rv Rv Rv Rv Rv Rv Rv Rv
-    Bare Bare GvM Odd Odd Odd Odd Odd
+    Bare Bare GvM Odd Prefix Prefix Prefix Prefix
     IvNo Odd IsNo Odd BareByte Bare BareByte Bare
     Jb Jb Jb Jb Jb Jb Jb Jb
     Jb Jb Jb Jb Jb Jb Jb Jb
-    Odd Odd Odd Odd EbGb EvGv EbGb EvGv
-    EbGb EvGv GbEb GvEv Odd GvM Odd Odd
+    Group Group Group Group EbGb EvGv EbGb EvGv
+    EbGb EvGv GbEb GvEv Odd GvM Odd Group
     Bare Odd Odd Odd Odd Odd Odd Odd
     Bare Bare Odd Bare Bare Bare Bare Bare
     AlOb AxOv ObAl OvAx BareByte Bare BareByte Bare
     AlIb AxIv BareByte Bare BareByte Bare BareByte Bare
     RbIb RbIb RbIb RbIb RbIb RbIb RbIb RbIb
     RvIv RvIv RvIv RvIv RvIv RvIv RvIv RvIv
-    Odd Odd Odd Bare GvM GvM Odd Odd
+    Group Group Odd Bare GvM GvM Group Group
     Odd Bare Odd Bare Bare Odd Bare Bare
-    Odd Odd Odd Odd Odd Odd Odd Bare
+    Group Group Group Group Odd Odd Odd Bare
     Odd Odd Odd Odd Odd Odd Odd Odd
     Jb Jb Jb Jb AlIb Odd Odd Odd
     Jv Jv Odd Jb Odd Odd Odd Odd
-    Odd Odd Odd Odd Bare Bare Odd Odd
-    Bare Bare Bare Bare Bare Bare Odd Odd
+    Prefix Odd Prefix Prefix Bare Bare Group Group
+    Bare Bare Bare Bare Bare Bare Group Group
 ];
 
 /// Those of the opcodes behind 0F.
 #[rattlefmt::skip]
 static TWO_BYTES: [Shape; 256] = shapes![
-    Odd Odd GvEw GvEw Odd Odd Bare Odd
+    Group Group GvEw GvEw Odd Odd Bare Odd
     Odd Odd Odd Odd Odd Odd Odd Odd
     Odd Odd Odd Odd Odd Odd Odd Odd
     Odd Odd Odd Odd Odd Odd Odd Odd
@@ -112,7 +128,7 @@ static TWO_BYTES: [Shape; 256] = shapes![
     Odd Odd Odd EvGv Odd Odd Odd Odd
     Odd Odd Odd EvGv Odd Odd Odd GvEv
     Odd Odd GvM EvGv GvM GvM GvEb GvEw
-    Odd Odd Odd EvGv GvEv GvEv GvEb GvEw
+    Odd Odd Group EvGv GvEv GvEv GvEb GvEw
     Odd Odd Odd Odd Odd Odd Odd Odd
     Odd Odd Odd Odd Odd Odd Odd Odd
     Odd Odd Odd Odd Odd Odd Odd Odd
@@ -154,10 +170,10 @@ fn one_at(b: u8) -> Shape
     ONE_BYTE[b as usize]
 }
 
-/// The shape of the row at a one-byte opcode.
+/// What stands at a first byte.
 #[inline(always)]
 pub(crate) fn one_shape(b: u8) -> Shape
-    ensures { shape_fits (one_entry b) result ≡ true }
+    ensures { lead_fits b result ≡ true }
 {
     one_at(b)
 }
@@ -169,7 +185,7 @@ fn two_at(b: u8) -> Shape
     TWO_BYTES[b as usize]
 }
 
-/// The shape of the row at the second byte behind 0F.
+/// What stands at the second byte behind 0F.
 #[inline(always)]
 pub(crate) fn two_shape(b: u8) -> Shape
     ensures { shape_fits (two_entry b) result ≡ true }
@@ -185,7 +201,7 @@ fn member_at(n: u8) -> Shape
     GROUPS[n as usize]
 }
 
-/// The shape of the member of a group that a reg field chooses.
+/// The member of a group that a reg field chooses.
 #[inline(always)]
 pub(crate) fn member_shape(group: u8, reg: u8) -> Shape
     requires group { group < 19 }
